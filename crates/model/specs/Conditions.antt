@@ -1,0 +1,63 @@
+-- What demands 2 and 3 speak of, each by itself, in 01's words ('Shape', 'Part read and part edit', 'The words of demand 3'); nothing here mentions the edit.
+use mathlib.Core.Path.{_≡_}
+use mathlib.Core.List.{List}
+use mathlib.Core.Option.{some}
+use Prim.Native.Nat.{ℕ}
+use lib.ListN.{length}
+use Rattle.model.specs.Outcome.{done}
+use Rattle.model.specs.Structural.{SValue, Belongs}
+use Rattle.model.specs.Types.{Ty}
+use Rattle.model.specs.Lowering.{lower}
+use Rattle.model.specs.Values.{Value}
+use Rattle.model.specs.ShapeFiles.{shape-of}
+use Rattle.model.specs.ValueFiles.{value-of}
+use Rattle.model.specs.Frames.{Place, unframe}
+use Rattle.model.specs.Paths.{Found, steps, found}
+use Rattle.model.specs.Parts.{Part, part}
+use Rattle.model.specs.Operations.{lowering, unframed}
+
+-- a shape belongs to a type if it is one of the lowered type
+pub record ShapeBelongs (ty shape : List ℕ) : Type 0 where
+  pub type : Ty
+  pub lowers : lowering ty ≡ done type
+  pub tree : SValue
+  pub says : shape-of shape ≡ done tree
+  pub belongs : Belongs (lower type) tree
+
+-- THE FOUR CONDITIONS
+
+-- a type lowers if no type or lowering row holds
+abbrev pub TypeLowers : List ℕ → Type 0
+TypeLowers ty = (t : Ty) × (lowering ty ≡ done t)
+
+-- a frame is then accepted if no frame row holds; `old` is its old value's file
+abbrev pub FrameAccepted : Place → List ℕ → List ℕ → Type 0
+FrameAccepted p ty frame = (old : List ℕ) × (unframed p ty frame ≡ done old)
+
+-- in that value's file the path leads to the part: its length is even and every step picks a child
+pub record PathLeads (p : Place) (ty frame path : List ℕ) (target : Found) : Type 0 where
+  pub type : Ty
+  pub lowers : lowering ty ≡ done type
+  pub old : List ℕ
+  pub accepted : unframed p ty frame ≡ done old
+  pub picks : List ℕ
+  pub even : steps path ≡ done picks
+  pub leads : found type picks old ≡ some target
+
+-- the new value has the part's type if no value row holds for it
+abbrev pub HasType : Found → List ℕ → Type 0
+HasType target val = (new : Value (target .type)) × (value-of (target .type) val ≡ done new)
+
+-- THE STRETCH
+
+-- a part's stretch begins where writing the whole value begins the part
+pub record Begins (p : Place) (ty frame path : List ℕ) (bit : ℕ) : Type 0 where
+  pub type : Ty
+  pub lowers : lowering ty ≡ done type
+  pub whole : Value type
+  pub reads : unframe p type frame ≡ done whole
+  pub picks : List ℕ
+  pub even : steps path ≡ done picks
+  pub place : Part (Value type)
+  pub leads : part p type picks whole ≡ some place
+  pub here : bit ≡ length (place .ahead)

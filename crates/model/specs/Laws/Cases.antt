@@ -1,0 +1,638 @@
+-- One table of cases over the operations, bytes in, number and bytes out, that the checker computes from the definitions (`computed`, by refl):
+-- 01's starred cases; for every row of the numbers the smallest input; for two rows that hold at once, the number that comes first;
+-- 01's traps; and the other cases along its edges. Every right side is a literal, worked out by hand from 01.
+use mathlib.Core.Path.{_≡_, refl}
+use mathlib.Core.Bool.{Bool, true, false, _&&_}
+use mathlib.Core.List.{List, [], _∷_, _++_, map}
+use Prim.Native.Nat.{ℕ, zero, suc, _/_, _%_}
+use lib.Dec.{eqb}
+use lib.ListN.{length, replicate}
+use Rattle.model.specs.Outcome.{Outcome}
+use Rattle.model.specs.Bytes.{to-bits, of-bits, byte-bits, bits-of, pack, fill, number, in-bytes}
+use Rattle.model.specs.Balanced.{next, next-power-of-two, btree-split-index, grow, btree, fold}
+use Rattle.model.specs.Structural.{type-records, shape-records, enum-injection, partition-type, partition}
+use Rattle.model.specs.TypeFiles.{head, variant-parts, read-type, type-of}
+use Rattle.model.specs.Lowering.{lower, has-never, over-large}
+use Rattle.model.specs.Values.{inject}
+use Rattle.model.specs.Reconstruct.{unfold-tree, combine, as-enum-leaf, reconstruct}
+use Rattle.model.specs.ShapeFiles.{read-shape, shape-of}
+use Rattle.model.specs.ValueFiles.{encode, value-file, same, parse-at, value-of}
+use Rattle.model.specs.Frames.{after, bits, frame, frame-file, from-bits, padding, unframe}
+use Rattle.model.specs.Paths.{steps, span, among, element, in-variant, step, pick-child, follow, found}
+use Rattle.model.specs.Operations.{lowering, lowered, shaped, reconstructed, framed, unframed, part-read, edited, delivered}
+
+-- HOW A CASE IS WRITTEN
+
+-- k digits of n in the base
+digits-in : ℕ → ℕ → ℕ → List ℕ
+digits-in base zero n = []
+digits-in base (suc k) n = digits-in base k (n / base) ++ (n % base) ∷ []
+
+-- k digits, and k bytes
+abbrev digits : ℕ → ℕ → List ℕ
+digits = digits-in 10
+
+abbrev hex : ℕ → ℕ → List ℕ
+hex = digits-in 256
+
+-- k times the same bytes
+times : ℕ → List ℕ → List ℕ
+times zero l = []
+times (suc k) l = l ++ times k l
+
+-- number, length and buffer
+abbrev pub Reply : Type 0
+Reply = ℕ × ℕ × List ℕ
+
+pub record Case : Type 0 where
+  pub got : Reply
+  pub want : Reply
+
+-- the reply with this buffer
+abbrev answers : Outcome (List ℕ) → List ℕ → Reply → Case
+answers o buffer reply = record { got = delivered o buffer; want = reply }
+
+-- the result stands in a buffer with one byte more, which stays
+abbrev gives : Outcome (List ℕ) → List ℕ → Case
+gives o result = answers o (replicate (suc (length result)) 238) (0, length result, result ++ 238 ∷ [])
+
+-- the number, and nothing in the buffer has changed
+abbrev refuses : Outcome (List ℕ) → ℕ → Case
+refuses o n = answers o (238 ∷ []) (n, 0, 238 ∷ [])
+
+-- the number, though a buffer of no bytes has room for no result
+abbrev refuses-first : Outcome (List ℕ) → ℕ → Case
+refuses-first o n = answers o [] (n, 0, [])
+
+-- an edit changes the frame's own bytes, or none of them: type, frame, path, value; the frame afterwards or the number
+abbrev edits : List ℕ → List ℕ → List ℕ → List ℕ → List ℕ → Case
+edits ty frame path val result = answers (edited after ty frame path val) frame (0, length result, result)
+
+abbrev edit-refuses : List ℕ → List ℕ → List ℕ → List ℕ → ℕ → Case
+edit-refuses ty frame path val n = answers (edited after ty frame path val) frame (n, 0, frame)
+
+same-list : List ℕ → List ℕ → Bool
+same-list [] [] = true
+same-list [] (y ∷ ys) = false
+same-list (x ∷ xs) [] = false
+same-list (x ∷ xs) (y ∷ ys) = eqb x y && same-list xs ys
+
+holds : Case → Bool
+holds c = eqb (c .got .0) (c .want .0) && eqb (c .got .1) (c .want .1) && same-list (c .got .2) (c .want .2)
+
+pub all-hold : List Case → Bool
+all-hold [] = true
+all-hold (c ∷ cs) = holds c && all-hold cs
+
+-- TYPE FILES
+
+abbrev never : List ℕ
+never = hex 4 0x00000000
+
+abbrev boolean : List ℕ
+boolean = hex 4 0x01000000
+
+abbrev u1 : List ℕ
+u1 = hex 4 0x02000001
+
+abbrev u2 : List ℕ
+u2 = hex 4 0x02000002
+
+abbrev u256 : List ℕ
+u256 = hex 4 0x02000100
+
+-- the empty tuple
+abbrev nothing : List ℕ
+nothing = hex 4 0x05000000
+
+-- k Options, one in the other, around what follows
+abbrev options : ℕ → List ℕ
+options k = times k (hex 4 0x04000000)
+
+-- a Tuple of two, which follow
+abbrev two-of : List ℕ
+two-of = hex 4 0x05000002
+
+abbrev option-bool : List ℕ
+option-bool = hex 8 0x04000000_01000000
+
+abbrev option-u4 : List ℕ
+option-u4 = hex 8 0x04000000_02000004
+
+abbrev three-booleans : List ℕ
+three-booleans = hex 16 0x05000003_01000000_01000000_01000000
+
+abbrev u4-or-bool : List ℕ
+u4-or-bool = hex 12 0x03000000_02000004_01000000
+
+abbrev three-u4 : List ℕ
+three-u4 = hex 8 0x06000003_02000004
+
+-- (u4, (), u4)
+abbrev u4-nothing-u4 : List ℕ
+u4-nothing-u4 = hex 16 0x05000003_02000004_05000000_02000004
+
+-- Lists of u1 with bound 4 and 8, of u4 with bound 8
+abbrev list-4 : List ℕ
+list-4 = hex 8 0x07000004_02000001
+
+abbrev list-8 : List ℕ
+list-8 = hex 8 0x07000008_02000001
+
+abbrev list-8-u4 : List ℕ
+list-8-u4 = hex 8 0x07000008_02000004
+
+-- (u4, List of u1 bound 4)
+abbrev u4-and-list : List ℕ
+u4-and-list = hex 16 0x05000002_02000004_07000004_02000001
+
+-- variants none, (u1), (u1, bool)
+abbrev variants : List ℕ
+variants = hex 28 0x08000003_09000000_09000001_02000001_09000002_02000001_01000000
+
+-- five variants without parts
+abbrev five-variants : List ℕ
+five-variants = hex 24 0x08000005_09000000_09000000_09000000_09000000_09000000
+
+-- an Array of 65 u256: 65 * 1,023 + 64 = 66,559 records
+abbrev large-type : List ℕ
+large-type = hex 8 0x06000041_02000100
+
+-- a record of no kind
+abbrev bad-kind : List ℕ
+bad-kind = hex 4 0x0A000000
+
+-- 33 records, each under the one before
+abbrev deep-type : List ℕ
+deep-type = options 32 ++ boolean
+
+-- 1,025 records
+abbrev long-type : List ℕ
+long-type = hex 4 0x05000400 ++ times 1024 boolean
+
+-- VALUE FILES
+
+-- a record: kind, choice, n, integer
+abbrev val : ℕ → ℕ → ℕ → ℕ → List ℕ
+val kind choice n integer = kind ∷ choice ∷ hex 2 n ++ hex 32 integer
+
+abbrev bool-is : ℕ → List ℕ
+bool-is choice = val 1 choice 0 0
+
+abbrev u1-is : ℕ → List ℕ
+u1-is = val 2 0 1
+
+abbrev u4-is : ℕ → List ℕ
+u4-is = val 2 0 4
+
+abbrev left-of : List ℕ
+left-of = val 3 0 0 0
+
+abbrev right-of : List ℕ
+right-of = val 3 1 0 0
+
+abbrev none-is : List ℕ
+none-is = val 4 0 0 0
+
+abbrev some-of : List ℕ
+some-of = val 4 1 0 0
+
+abbrev tuple-of : ℕ → List ℕ
+tuple-of n = val 5 0 n 0
+
+abbrev array-of : ℕ → List ℕ
+array-of n = val 6 0 n 0
+
+abbrev list-of : ℕ → List ℕ
+list-of n = val 7 0 n 0
+
+abbrev variant : ℕ → List ℕ
+variant n = val 8 0 n 0
+
+-- (9, [1]) of u4-and-list
+abbrev nine-and-one : List ℕ
+nine-and-one = tuple-of 2 ++ u4-is 9 ++ list-of 1 ++ u1-is 1
+
+-- a record of kind 0: no type has such a value
+abbrev no-value : List ℕ
+no-value = replicate 36 0
+
+-- OTHER FILES
+
+-- 65,537 trees, and one tree of 65,537 records
+abbrev long-shape : List ℕ
+long-shape = replicate 65537 0
+
+abbrev long-tree : List ℕ
+long-tree = replicate 65536 1 ++ 0 ∷ []
+
+-- a path that leads to a part of no value: nothing has a child 65,535
+abbrev no-path : List ℕ
+no-path = hex 2 0xFFFF
+
+-- 01'S STARRED CASES
+
+starred : List Case
+starred =
+    -- the left sides of trees of 2 to 9 parts
+    record { got = (0, 8, map btree-split-index (2 ∷ 3 ∷ 4 ∷ 5 ∷ 6 ∷ 7 ∷ 8 ∷ 9 ∷ [])); want = (0, 8, digits 8 11212341) }
+    ∷ gives (lowered nothing) (digits 1 0)
+    ∷ gives (lowered u2) (digits 7 2100100)
+    ∷ gives (lowered three-booleans) (digits 11 21002100100)
+    ∷ gives (lowered list-4) (digits 15 210210010010100)
+    ∷ gives (shaped list-4 (list-of 0)) (digits 5 31010)
+    ∷ gives (shaped list-4 (list-of 1 ++ u1-is 1)) (digits 6 310220)
+    ∷ gives (shaped list-4 (list-of 2 ++ u1-is 1 ++ u1-is 0)) (digits 9 323201010)
+    ∷ gives (shaped list-4 (list-of 3 ++ u1-is 1 ++ u1-is 0 ++ u1-is 1)) (digits 10 3232010220)
+    ∷ gives (shaped variants (variant 0)) (digits 2 10)
+    ∷ gives (shaped variants (variant 1 ++ u1-is 1)) (digits 4 2120)
+    ∷ gives (shaped variants (variant 2 ++ u1-is 1 ++ bool-is 0)) (digits 7 2232010)
+    ∷ gives (framed after u4-or-bool (right-of ++ bool-is 1)) (hex 1 0xC0)
+    ∷ gives (framed after u4-and-list nine-and-one) (hex 2 0x9180)
+    ∷ edits u4-and-list (hex 2 0x9180) (hex 2 0) (u4-is 6) (hex 2 0x6180)
+    ∷ []
+
+-- EVERY ROW ONCE, on the smallest input (the bytes of all arguments together)
+
+rows : List Case
+rows =
+    refuses (lowered []) 1
+    ∷ refuses (lowered long-type) 2
+    ∷ refuses (lowered bad-kind) 3
+    ∷ refuses (lowered deep-type) 4
+    -- an Option without its child
+    ∷ refuses (lowered (options 1)) 5
+    ∷ refuses (lowered never) 6
+    -- an Array of 32,769 units: 65,537 records
+    ∷ refuses (lowered (hex 8 0x06008001_05000000)) 7
+    ∷ refuses (reconstructed nothing long-tree) 8
+    ∷ refuses (reconstructed nothing []) 9
+    ∷ refuses (reconstructed boolean (digits 1 0)) 10
+    ∷ refuses (unframed after boolean []) 11
+    ∷ refuses (unframed after boolean (hex 1 0x40)) 12
+    ∷ refuses (part-read after nothing [] (hex 1 0)) 13
+    ∷ refuses (part-read after nothing [] (hex 2 0)) 14
+    ∷ refuses (framed after boolean []) 15
+    ∷ refuses (framed after boolean no-value) 16
+    ∷ answers (lowered nothing) [] (17, 0, [])
+    ∷ []
+
+-- TWO ROWS AT ONCE; the comments name them. Left out is what cannot be: rows 9 and 10 (10 needs a tree), and rows of files that no operation takes together.
+-- In one type file
+
+type-pairs : List Case
+type-pairs =
+    -- 1 and each of 2 to 7: a byte more than records
+    refuses (lowered (long-type ++ 0 ∷ [])) 1
+    ∷ refuses (lowered (bad-kind ++ 0 ∷ [])) 1
+    ∷ refuses (lowered (deep-type ++ 0 ∷ [])) 1
+    ∷ refuses (lowered (options 1 ++ 0 ∷ [])) 1
+    ∷ refuses (lowered (never ++ 0 ∷ [])) 1
+    ∷ refuses (lowered (large-type ++ 0 ∷ [])) 1
+    -- 2 and each of 3 to 7
+    ∷ refuses (lowered (times 1025 bad-kind)) 2
+    ∷ refuses (lowered (options 1025)) 2
+    ∷ refuses (lowered (times 1025 boolean)) 2
+    ∷ refuses (lowered (hex 4 0x05000400 ++ times 1024 never)) 2
+    ∷ refuses (lowered (hex 4 0x05000400 ++ times 1024 u256)) 2
+    -- 3 and 4: at one record; the bad one earlier; the deep one earlier
+    ∷ refuses (lowered (options 32 ++ bad-kind)) 3
+    ∷ refuses (lowered (two-of ++ bad-kind ++ options 31 ++ boolean)) 3
+    ∷ refuses (lowered (two-of ++ options 31 ++ boolean ++ bad-kind)) 4
+    -- 3 and 5: one missing behind a bad one; a bad one left over
+    ∷ refuses (lowered (two-of ++ bad-kind)) 3
+    ∷ refuses (lowered (boolean ++ bad-kind)) 5
+    -- 3 and 6; 3 and 7
+    ∷ refuses (lowered (two-of ++ never ++ bad-kind)) 3
+    ∷ refuses (lowered (two-of ++ large-type ++ bad-kind)) 3
+    -- 4 and 5: one missing behind a deep one; one left over; but a record that is missing below depth 32 is not too deep
+    ∷ refuses (lowered (two-of ++ options 31 ++ boolean)) 4
+    ∷ refuses (lowered (deep-type ++ boolean)) 4
+    ∷ refuses (lowered (options 32)) 5
+    -- 4 and 6; 4 and 7
+    ∷ refuses (lowered (options 32 ++ never)) 4
+    ∷ refuses (lowered (options 32 ++ large-type)) 4
+    -- 5 and 6; 5 and 7
+    ∷ refuses (lowered (never ++ never)) 5
+    ∷ refuses (lowered (large-type ++ boolean)) 5
+    -- 6 and 7
+    ∷ refuses (lowered (two-of ++ never ++ large-type)) 6
+    ∷ []
+
+-- behind a type that is refused with n: files of rows 11, 13, 14, 15 and 16 whatever the type (no frame exceeds 4,096 bytes), and no room
+behind : ℕ → List ℕ → List Case
+behind n ty =
+    refuses (unframed after ty (replicate 4097 0)) n
+    ∷ refuses (part-read after ty [] (hex 1 0)) n
+    ∷ refuses (part-read after ty [] no-path) n
+    ∷ refuses (framed after ty []) n
+    ∷ refuses (shaped ty no-value) n
+    ∷ refuses-first (lowered ty) n
+    ∷ []
+
+-- the same with rows 8 and 9
+behind-all : ℕ → List ℕ → List Case
+behind-all n ty = refuses (reconstructed ty long-shape) n ∷ refuses (reconstructed ty []) n ∷ behind n ty
+
+-- where another file has part in it
+file-pairs : List Case
+file-pairs =
+    -- reconstruction skips 6 and 7: with 8, with 9, with 10, and alone
+    refuses (reconstructed never long-tree) 8
+    ∷ refuses (reconstructed never []) 9
+    ∷ refuses (reconstructed never (digits 1 0)) 10
+    ∷ refuses (reconstructed large-type long-tree) 8
+    ∷ refuses (reconstructed large-type []) 9
+    ∷ refuses (reconstructed large-type (digits 1 0)) 10
+    ∷ gives (reconstructed (two-of ++ boolean ++ options 1 ++ never) (digits 5 32010)) (tuple-of 2 ++ bool-is 1 ++ none-is)
+    ∷ gives (reconstructed (two-of ++ boolean ++ options 1 ++ large-type) (digits 5 32010)) (tuple-of 2 ++ bool-is 1 ++ none-is)
+    -- 1 and 10, 1 and 12; 5 and 10, 5 and 12: behind the Boolean in front
+    ∷ refuses (reconstructed (boolean ++ 0 ∷ []) (digits 1 0)) 1
+    ∷ refuses (unframed after (boolean ++ 0 ∷ []) (hex 1 0x40)) 1
+    ∷ refuses (reconstructed (boolean ++ boolean) (digits 1 0)) 5
+    ∷ refuses (unframed after (boolean ++ boolean) (hex 1 0x40)) 5
+    -- 7 and 12: none, behind it 16,640 bits of padding and 7 of the tail
+    ∷ refuses (unframed after (options 1 ++ large-type) (replicate 2081 127)) 7
+    -- 8 and 9; 8 and 10
+    ∷ refuses (reconstructed nothing long-shape) 8
+    ∷ refuses (reconstructed boolean long-tree) 8
+    -- 11 and 12: a byte too long, and its padding is 1
+    ∷ refuses (unframed after boolean (hex 2 0x4000)) 11
+    -- 11 and 13; 11 and 14; 11 and 15; 11 and 16
+    ∷ refuses (part-read after boolean [] (hex 1 0)) 11
+    ∷ refuses (part-read after boolean [] no-path) 11
+    ∷ edit-refuses boolean [] [] [] 11
+    ∷ edit-refuses boolean [] [] no-value 11
+    -- 12 and 13; 12 and 14; 12 and 15; 12 and 16
+    ∷ refuses (part-read after boolean (hex 1 0x40) (hex 1 0)) 12
+    ∷ refuses (part-read after boolean (hex 1 0x40) no-path) 12
+    ∷ edit-refuses boolean (hex 1 0x40) [] [] 12
+    ∷ edit-refuses boolean (hex 1 0x40) [] no-value 12
+    -- 13 and 14; 13 and 15; 13 and 16
+    ∷ refuses (part-read after boolean (hex 1 0) (hex 3 0xFFFF00)) 13
+    ∷ edit-refuses boolean (hex 1 0) (hex 1 0) [] 13
+    ∷ edit-refuses boolean (hex 1 0) (hex 1 0) no-value 13
+    -- 14 and 15; 14 and 16
+    ∷ edit-refuses boolean (hex 1 0) no-path [] 14
+    ∷ edit-refuses boolean (hex 1 0) no-path no-value 14
+    -- 15 and 16: no record; a byte more than one
+    ∷ refuses (shaped boolean []) 15
+    ∷ refuses (shaped boolean (no-value ++ 0 ∷ [])) 15
+    -- 8 to 16 and 17
+    ∷ refuses-first (reconstructed nothing long-tree) 8
+    ∷ refuses-first (reconstructed nothing []) 9
+    ∷ refuses-first (reconstructed boolean (digits 1 0)) 10
+    ∷ refuses-first (unframed after boolean []) 11
+    ∷ refuses-first (unframed after boolean (hex 1 0x40)) 12
+    ∷ refuses-first (part-read after boolean (hex 1 0) (hex 1 0)) 13
+    ∷ refuses-first (part-read after boolean (hex 1 0) no-path) 14
+    ∷ refuses-first (framed after boolean []) 15
+    ∷ refuses-first (framed after boolean no-value) 16
+    ∷ []
+
+pairs : List Case
+pairs = type-pairs ++ behind-all 1 [] ++ behind-all 2 long-type ++ behind-all 3 bad-kind ++ behind-all 4 deep-type ++ behind-all 5 (options 1) ++ behind 6 never ++ behind 7 large-type ++ file-pairs
+
+-- 01'S TRAPS
+
+traps : List Case
+traps =
+    -- three parts give the left 1
+    gives (shaped three-booleans (tuple-of 3 ++ bool-is 1 ++ bool-is 0 ++ bool-is 1)) (digits 8 32031020)
+    ∷ gives (reconstructed three-booleans (digits 8 32031020)) (tuple-of 3 ++ bool-is 1 ++ bool-is 0 ++ bool-is 1)
+    ∷ refuses (reconstructed three-booleans (digits 8 33201020)) 10
+    -- five variants too: left 1, right 4
+    ∷ gives (lowered five-variants) (digits 9 101100100)
+    ∷ gives (shaped five-variants (variant 1)) (digits 4 2110)
+    ∷ gives (reconstructed five-variants (digits 4 2210)) (variant 3)
+    -- a block of b/2 is full with exactly b/2 elements: four of bound 8, written, framed, and both read back
+    ∷ gives (shaped list-8 (list-of 4 ++ u1-is 1 ++ u1-is 0 ++ u1-is 1 ++ u1-is 1)) (digits 18 323320103202031010)
+    ∷ gives (framed after list-8 (list-of 4 ++ u1-is 1 ++ u1-is 0 ++ u1-is 1 ++ u1-is 1)) (hex 2 0xD800)
+    ∷ gives (reconstructed list-8 (digits 18 323320103202031010)) (list-of 4 ++ u1-is 1 ++ u1-is 0 ++ u1-is 1 ++ u1-is 1)
+    ∷ gives (unframed after list-8 (hex 2 0xD800)) (list-of 4 ++ u1-is 1 ++ u1-is 0 ++ u1-is 1 ++ u1-is 1)
+    -- and exactly two that remain for the block of 2; one of bound 2
+    ∷ gives (framed after list-8 (list-of 6 ++ u1-is 0 ++ u1-is 0 ++ u1-is 0 ++ u1-is 0 ++ u1-is 1 ++ u1-is 1)) (hex 2 0x8700)
+    ∷ gives (framed after (hex 8 0x07000002_02000001) (list-of 1 ++ u1-is 1)) (hex 1 0xC0)
+    -- an Enum of one variant adds no sum
+    ∷ gives (lowered (hex 12 0x08000001_09000001_02000001)) (digits 3 100)
+    ∷ gives (shaped (hex 12 0x08000001_09000001_02000001) (variant 0 ++ u1-is 1)) (digits 2 20)
+    ∷ gives (reconstructed (hex 12 0x08000001_09000001_02000001) (digits 2 20)) (variant 0 ++ u1-is 1)
+    ∷ gives (framed after (hex 12 0x08000001_09000001_02000001) (variant 0 ++ u1-is 1)) (hex 1 0x80)
+    ∷ gives (lowered (hex 8 0x08000001_09000000)) (digits 1 0)
+    -- a Never is refused only where the shape reaches it: Option, Either, an Array of 0; writing gives 6
+    ∷ gives (reconstructed (options 1 ++ never) (digits 2 10)) none-is
+    ∷ refuses (reconstructed (options 1 ++ never) (digits 2 20)) 10
+    ∷ refuses (shaped (options 1 ++ never) none-is) 6
+    ∷ gives (reconstructed (hex 12 0x03000000_00000000_01000000) (digits 3 210)) (right-of ++ bool-is 0)
+    ∷ refuses (reconstructed (hex 12 0x03000000_00000000_01000000) (digits 2 10)) 10
+    ∷ gives (reconstructed (hex 8 0x06000000_00000000) (digits 1 0)) (array-of 0)
+    -- each of an integer's bits is checked to be one
+    ∷ refuses (reconstructed u2 (digits 4 3100)) 10
+    ∷ refuses (reconstructed u2 (digits 6 310300)) 10
+    ∷ []
+
+-- THE OTHER CASES ALONG THE EDGES. Type files
+
+type-edges : List Case
+type-edges =
+    -- 3: byte 1; n of each kind; a Variant where a type belongs, and the reverse
+    refuses (lowered (hex 4 0x01010000)) 3
+    ∷ refuses (lowered (hex 4 0x00000001)) 3
+    ∷ refuses (lowered (hex 4 0x01000001)) 3
+    ∷ refuses (lowered (hex 4 0x02000000)) 3
+    ∷ refuses (lowered (hex 4 0x02000003)) 3
+    ∷ refuses (lowered (hex 4 0x02000200)) 3
+    ∷ refuses (lowered (hex 12 0x03000001_01000000_01000000)) 3
+    ∷ refuses (lowered (hex 8 0x04000001_01000000)) 3
+    ∷ refuses (lowered (hex 8 0x07000000_01000000)) 3
+    ∷ refuses (lowered (hex 8 0x07000001_01000000)) 3
+    ∷ refuses (lowered (hex 8 0x07000003_01000000)) 3
+    ∷ refuses (lowered (hex 8 0x0700C000_01000000)) 3
+    ∷ refuses (lowered (hex 4 0x08000000)) 3
+    ∷ refuses (lowered (hex 4 0x09000000)) 3
+    ∷ refuses (lowered (hex 8 0x08000001_05000000)) 3
+    ∷ refuses (lowered (hex 8 0x08000001_09010000)) 3
+    -- the largest bound is accepted: the empty list in its fifteen blocks
+    ∷ gives (reconstructed (hex 8 0x07008000_05000000) (digits 44 31031031031031031031031031031031031031031010)) (list-of 0)
+    -- 4: at depth 32 a Boolean is accepted; a Variant at depth 33 is not, and no Variant there is 3
+    ∷ gives (lowered (options 31 ++ boolean)) (digits 65 10101010101010101010101010101010101010101010101010101010101010100)
+    ∷ refuses (lowered (options 31 ++ hex 8 0x08000001_09000000)) 4
+    ∷ refuses (lowered (options 31 ++ hex 8 0x08000001_01000000)) 3
+    -- 5: one left over; a second side missing; a second Variant missing
+    ∷ refuses (lowered (boolean ++ boolean)) 5
+    ∷ refuses (lowered (hex 8 0x03000000_01000000)) 5
+    ∷ refuses (lowered (hex 8 0x08000002_09000000)) 5
+    -- 6: in an Array of 0, in a List, in a Variant
+    ∷ refuses (lowered (hex 8 0x06000000_00000000)) 6
+    ∷ refuses (lowered (hex 8 0x07000002_00000000)) 6
+    ∷ refuses (lowered (hex 16 0x08000002_09000000_09000001_00000000)) 6
+    -- 7: a type in it, though an Array of 0 lowers to one record; 65,537 records; 65,535 of them are accepted (64 u256), and do not fit the one byte
+    ∷ refuses (lowered (hex 4 0x06000000 ++ large-type)) 7
+    ∷ refuses (lowered (two-of ++ nothing ++ hex 8 0x06000040_02000100)) 7
+    ∷ refuses (lowered (hex 8 0x06000040_02000100)) 17
+    -- lowered types of the other kinds
+    ∷ gives (lowered boolean) (digits 3 100)
+    ∷ gives (lowered u4-or-bool) (digits 19 1221001002100100100)
+    ∷ gives (lowered option-bool) (digits 5 10100)
+    ∷ gives (lowered (hex 8 0x05000001_01000000)) (digits 3 100)
+    ∷ gives (lowered (hex 8 0x06000000_01000000)) (digits 1 0)
+    ∷ gives (lowered (hex 8 0x06000001_01000000)) (digits 3 100)
+    ∷ gives (lowered (hex 8 0x06000003_05000000)) (digits 5 20200)
+    ∷ gives (lowered (hex 8 0x07000002_02000001)) (digits 5 10100)
+    ∷ gives (lowered (hex 8 0x07000008_05000000)) (digits 19 2102200200210200100)
+    ∷ gives (lowered variants) (digits 13 1011002100100)
+    ∷ gives (lowered u4-and-list) (digits 31 2221001002100100210210010010100)
+    ∷ []
+
+-- Shapes and values
+shape-edges : List Case
+shape-edges =
+    gives (shaped u4-and-list nine-and-one) (digits 18 333201031020310220)
+    ∷ gives (reconstructed u4-and-list (digits 18 333201031020310220)) nine-and-one
+    ∷ gives (reconstructed list-4 (digits 6 310220)) (list-of 1 ++ u1-is 1)
+    ∷ gives (reconstructed list-4 (digits 10 3232010220)) (list-of 3 ++ u1-is 1 ++ u1-is 0 ++ u1-is 1)
+    ∷ gives (reconstructed variants (digits 7 2232010)) (variant 2 ++ u1-is 1 ++ bool-is 0)
+    -- nothing is looked at under an empty tuple, an array of 0, a variant without parts; under a none it must be unit
+    ∷ gives (reconstructed nothing (digits 3 300)) (tuple-of 0)
+    ∷ gives (reconstructed (hex 8 0x06000000_01000000) (digits 3 300)) (array-of 0)
+    ∷ gives (reconstructed variants (digits 4 1300)) (variant 0)
+    ∷ refuses (reconstructed option-bool (digits 4 1300)) 10
+    -- 9: a byte above 3; a tree cut short; a second tree
+    ∷ refuses (reconstructed nothing (digits 1 4)) 9
+    ∷ refuses (reconstructed nothing (digits 2 30)) 9
+    ∷ refuses (reconstructed nothing (digits 2 0)) 9
+    -- 16: four in a list of bound 4; a u1 of 2; a bad choice, n, integer, kind; wrong counts; records missing and left over
+    ∷ refuses (shaped list-4 (list-of 4 ++ u1-is 1 ++ u1-is 0 ++ u1-is 1 ++ u1-is 1)) 16
+    ∷ refuses (shaped u1 (u1-is 2)) 16
+    ∷ refuses (shaped boolean (val 1 2 0 0)) 16
+    ∷ refuses (shaped boolean (val 1 0 1 0)) 16
+    ∷ refuses (shaped boolean (val 1 0 0 1)) 16
+    ∷ refuses (shaped u2 (val 2 1 2 0)) 16
+    ∷ refuses (shaped u2 (u1-is 1)) 16
+    ∷ refuses (shaped u4-or-bool (val 3 2 0 0 ++ bool-is 1)) 16
+    ∷ refuses (shaped u4-or-bool (left-of ++ bool-is 1)) 16
+    ∷ refuses (shaped (hex 8 0x06000002_01000000) (array-of 1 ++ bool-is 1)) 16
+    ∷ refuses (shaped variants (variant 3)) 16
+    ∷ refuses (shaped option-bool some-of) 16
+    ∷ refuses (shaped option-bool (none-is ++ bool-is 0)) 16
+    ∷ []
+
+-- Frames and buffers
+frame-edges : List Case
+frame-edges =
+    gives (framed after u4-or-bool (left-of ++ u4-is 9)) (hex 1 0x48)
+    ∷ gives (unframed after u4-or-bool (hex 1 0x48)) (left-of ++ u4-is 9)
+    ∷ gives (unframed after u4-or-bool (hex 1 0xC0)) (right-of ++ bool-is 1)
+    ∷ gives (unframed after u4-and-list (hex 2 0x9180)) nine-and-one
+    ∷ gives (framed after variants (variant 2 ++ u1-is 1 ++ bool-is 0)) (hex 1 0xE0)
+    ∷ gives (unframed after variants (hex 1 0xA0)) (variant 1 ++ u1-is 1)
+    -- an integer's high byte first, in value file and frame
+    ∷ gives (framed after (hex 4 0x02000010) (val 2 0 16 0x1234)) (hex 2 0x1234)
+    ∷ gives (unframed after u256 (hex 32 0x0102030405060708090A0B0C0D0E0F101112131415161718191A1B1C1D1E1F20)) (val 2 0 256 0x0102030405060708090A0B0C0D0E0F101112131415161718191A1B1C1D1E1F20)
+    -- 12: behind the narrower side; in the tail; in a block that is not taken; in an unused variant's place
+    ∷ refuses (unframed after u4-or-bool (hex 1 0xC8)) 12
+    ∷ refuses (unframed after u4-or-bool (hex 1 0xC1)) 12
+    ∷ refuses (unframed after list-4 (hex 1 0x58)) 12
+    ∷ refuses (unframed after variants (hex 1 0xB0)) 12
+    -- a type of width 0 has a frame of no bytes, which a buffer of no bytes holds
+    ∷ answers (framed after nothing (tuple-of 0)) [] (0, 0, [])
+    ∷ gives (unframed after nothing []) (tuple-of 0)
+    ∷ refuses (unframed after nothing (hex 1 0)) 11
+    ∷ gives (unframed after (hex 8 0x06000003_05000000) []) (array-of 3 ++ tuple-of 0 ++ tuple-of 0 ++ tuple-of 0)
+    -- a buffer of exactly the length; one byte short, and it stays; bytes past the end stay
+    ∷ answers (lowered u2) (hex 7 0xEEEEEEEEEEEEEE) (0, 7, digits 7 2100100)
+    ∷ answers (lowered u2) (hex 6 0xEEEEEEEEEEEE) (17, 0, hex 6 0xEEEEEEEEEEEE)
+    ∷ answers (framed after u4-and-list nine-and-one) (hex 4 0x01020304) (0, 2, hex 4 0x91800304)
+    ∷ answers (framed after u4-and-list nine-and-one) (hex 1 0x01) (17, 0, hex 1 0x01)
+    ∷ answers (part-read after boolean (hex 1 0x80) []) (replicate 35 7) (17, 0, replicate 35 7)
+    ∷ []
+
+-- Parts read. List of u4 bound 8: 1 to 7 is 0x891A55AE, in blocks of 4, 2 and 1; 9 alone is 0x00000032
+read-edges : List Case
+read-edges =
+    -- the whole, by the empty path
+    gives (part-read after u4-and-list (hex 2 0x9180) []) nine-and-one
+    ∷ gives (part-read after boolean (hex 1 0x80) []) (bool-is 1)
+    -- a Tuple's parts, one of them of width 0
+    ∷ gives (part-read after u4-and-list (hex 2 0x9180) (hex 2 0)) (u4-is 9)
+    ∷ gives (part-read after u4-and-list (hex 2 0x9180) (hex 2 1)) (list-of 1 ++ u1-is 1)
+    ∷ gives (part-read after u4-and-list (hex 2 0x9180) (hex 4 0x00010000)) (u1-is 1)
+    ∷ gives (part-read after u4-nothing-u4 (hex 1 0x96) (hex 2 1)) (tuple-of 0)
+    ∷ gives (part-read after u4-nothing-u4 (hex 1 0x96) (hex 2 2)) (u4-is 6)
+    -- no such part: past the end; past the list's; step 256, high byte first; in an integer
+    ∷ refuses (part-read after u4-and-list (hex 2 0x9180) (hex 2 2)) 14
+    ∷ refuses (part-read after u4-and-list (hex 2 0x9180) (hex 4 0x00010001)) 14
+    ∷ refuses (part-read after u4-and-list (hex 2 0x9180) (hex 2 0x0100)) 14
+    ∷ refuses (part-read after u4-and-list (hex 2 0x9180) (hex 4 0x00000000)) 14
+    -- Array
+    ∷ gives (part-read after three-u4 (hex 2 0x1230) (hex 2 0)) (u4-is 1)
+    ∷ gives (part-read after three-u4 (hex 2 0x1230) (hex 2 2)) (u4-is 3)
+    ∷ refuses (part-read after three-u4 (hex 2 0x1230) (hex 2 3)) 14
+    -- List: each block, and the first element in the last one
+    ∷ gives (part-read after list-8-u4 (hex 4 0x891A55AE) (hex 2 0)) (u4-is 1)
+    ∷ gives (part-read after list-8-u4 (hex 4 0x891A55AE) (hex 2 3)) (u4-is 4)
+    ∷ gives (part-read after list-8-u4 (hex 4 0x891A55AE) (hex 2 4)) (u4-is 5)
+    ∷ gives (part-read after list-8-u4 (hex 4 0x891A55AE) (hex 2 6)) (u4-is 7)
+    ∷ refuses (part-read after list-8-u4 (hex 4 0x891A55AE) (hex 2 7)) 14
+    ∷ gives (part-read after list-8-u4 (hex 4 0x00000032) (hex 2 0)) (u4-is 9)
+    -- Either: the side taken, the other one, and no third
+    ∷ gives (part-read after u4-or-bool (hex 1 0x48) (hex 2 0)) (u4-is 9)
+    ∷ gives (part-read after u4-or-bool (hex 1 0xC0) (hex 2 1)) (bool-is 1)
+    ∷ refuses (part-read after u4-or-bool (hex 1 0x48) (hex 2 1)) 14
+    ∷ refuses (part-read after u4-or-bool (hex 1 0xC0) (hex 2 0)) 14
+    ∷ refuses (part-read after u4-or-bool (hex 1 0xC0) (hex 2 2)) 14
+    -- Option: 0, if some
+    ∷ gives (part-read after option-u4 (hex 1 0xC8) (hex 2 0)) (u4-is 9)
+    ∷ refuses (part-read after option-u4 (hex 1 0xC8) (hex 2 1)) 14
+    ∷ refuses (part-read after option-u4 (hex 1 0x00) (hex 2 0)) 14
+    -- Enum: a part of the variant present
+    ∷ gives (part-read after variants (hex 1 0xA0) (hex 2 0)) (u1-is 1)
+    ∷ gives (part-read after variants (hex 1 0xE0) (hex 2 0)) (u1-is 1)
+    ∷ gives (part-read after variants (hex 1 0xE0) (hex 2 1)) (bool-is 0)
+    ∷ refuses (part-read after variants (hex 1 0xE0) (hex 2 2)) 14
+    ∷ refuses (part-read after variants (hex 1 0xA0) (hex 2 1)) 14
+    ∷ refuses (part-read after variants (hex 1 0x00) (hex 2 0)) 14
+    ∷ []
+
+-- Parts edited
+edit-edges : List Case
+edit-edges =
+    edits u4-and-list (hex 2 0x9180) (hex 2 1) (list-of 3 ++ u1-is 1 ++ u1-is 0 ++ u1-is 1) (hex 2 0x9D80)
+    ∷ edits u4-and-list (hex 2 0x9D80) (hex 2 1) (list-of 0) (hex 2 0x9000)
+    ∷ edits u4-and-list (hex 2 0x9180) (hex 4 0x00010000) (u1-is 0) (hex 2 0x9100)
+    ∷ edit-refuses u4-and-list (hex 2 0x9180) (hex 4 0x00010001) (u1-is 0) 14
+    -- the whole, by the empty path
+    ∷ edits u4-or-bool (hex 1 0xC0) [] (left-of ++ u4-is 9) (hex 1 0x48)
+    ∷ edits u4-and-list (hex 2 0x9180) [] (tuple-of 2 ++ u4-is 6 ++ list-of 3 ++ u1-is 1 ++ u1-is 0 ++ u1-is 1) (hex 2 0x6D80)
+    -- a part of width 0, and the one behind it
+    ∷ edits u4-nothing-u4 (hex 1 0x96) (hex 2 1) (tuple-of 0) (hex 1 0x96)
+    ∷ edits u4-nothing-u4 (hex 1 0x96) (hex 2 2) (u4-is 1) (hex 1 0x91)
+    ∷ edits nothing [] [] (tuple-of 0) []
+    -- Array; List, each block; Either; Option; Enum
+    ∷ edits three-u4 (hex 2 0x1230) (hex 2 1) (u4-is 15) (hex 2 0x1F30)
+    ∷ edits list-8-u4 (hex 4 0x891A55AE) (hex 2 0) (u4-is 15) (hex 4 0xF91A55AE)
+    ∷ edits list-8-u4 (hex 4 0x891A55AE) (hex 2 5) (u4-is 9) (hex 4 0x891A566E)
+    ∷ edits list-8-u4 (hex 4 0x891A55AE) (hex 2 6) (u4-is 0) (hex 4 0x891A55A0)
+    ∷ edits u4-or-bool (hex 1 0x48) (hex 2 0) (u4-is 6) (hex 1 0x30)
+    ∷ edits option-u4 (hex 1 0xC8) (hex 2 0) (u4-is 6) (hex 1 0xB0)
+    ∷ edits variants (hex 1 0xE0) (hex 2 1) (bool-is 1) (hex 1 0xF0)
+    -- the new value must have the part's type, not another's
+    ∷ edit-refuses u4-and-list (hex 2 0x9180) (hex 2 0) (u1-is 1) 16
+    ∷ edit-refuses u4-and-list (hex 2 0x9180) (hex 2 1) (list-of 4 ++ u1-is 1 ++ u1-is 0 ++ u1-is 1 ++ u1-is 1) 16
+    ∷ edit-refuses u4-and-list (hex 2 0x9180) (hex 2 0) (u4-is 6 ++ u4-is 6) 16
+    ∷ edit-refuses u4-and-list (hex 2 0x9180) (hex 2 0) nine-and-one 16
+    ∷ edit-refuses u4-or-bool (hex 1 0xC0) (hex 2 0) (u4-is 9) 14
+    ∷ []
+
+edges : List Case
+edges = type-edges ++ shape-edges ++ frame-edges ++ read-edges ++ edit-edges
+
+-- THE TABLE
+
+pub table : List Case
+table = starred ++ rows ++ pairs ++ traps ++ edges
+
+-- every case of the table holds: the checker computes it from the definitions
+pub computed : all-hold table ≡ true
+unfolding digits-in times same-list holds all-hold starred rows type-pairs behind behind-all file-pairs pairs traps type-edges shape-edges frame-edges read-edges edit-edges edges table to-bits of-bits byte-bits bits-of pack fill number in-bytes next next-power-of-two btree-split-index grow btree fold type-records shape-records enum-injection partition-type partition head variant-parts read-type type-of lower has-never over-large inject unfold-tree combine as-enum-leaf reconstruct read-shape shape-of encode value-file same parse-at value-of bits frame frame-file from-bits padding unframe steps span among element in-variant step pick-child follow found lowering lowered shaped reconstructed framed unframed part-read edited delivered
+computed = refl

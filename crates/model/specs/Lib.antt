@@ -1,0 +1,20 @@
+-- The papers' definitions; `Laws` has what is proved of them.
+pub mod Numbers
+pub mod Outcome
+pub mod Options
+pub mod Bytes
+pub mod Balanced
+pub mod Structural
+pub mod Types
+pub mod TypeFiles
+pub mod Lowering
+pub mod Values
+pub mod Reconstruct
+pub mod ShapeFiles
+pub mod ValueFiles
+pub mod Frames
+pub mod Paths
+pub mod Parts
+pub mod Operations
+pub mod Conditions
+pub mod Laws

@@ -1,0 +1,94 @@
+-- The operations (01, 'What comes from which file' and 'Numbers by the place of the check'), from bytes to bytes or a number.
+-- Each checks its rows in the table's order. Paddings stand where the parameter `p` says (01: after).
+use mathlib.Core.Bool.{true, false}
+use mathlib.Core.List.{List, _++_}
+use Prim.Native.Nat.{ℕ}
+use lib.Dec.{ltb}
+use lib.ListN.{length, drop}
+use Rattle.model.specs.Numbers.{never-stands, too-large, not-reconstructed, no-such-part, no-room}
+use Rattle.model.specs.Outcome.{Outcome, done, refused, _>>=_, _>>_, refuse, or-refuse}
+use Rattle.model.specs.Structural.{type-records}
+use Rattle.model.specs.Types.{Ty}
+use Rattle.model.specs.TypeFiles.{type-of}
+use Rattle.model.specs.Lowering.{lower, has-never, over-large}
+use Rattle.model.specs.Values.{inject}
+use Rattle.model.specs.Reconstruct.{reconstruct}
+use Rattle.model.specs.ShapeFiles.{shape-of, shape-file}
+use Rattle.model.specs.ValueFiles.{value-of, value-file}
+use Rattle.model.specs.Frames.{Place, frame-file, unframe}
+use Rattle.model.specs.Paths.{steps, found, part-records, replaced}
+
+-- a type that lowers: no type or lowering row holds
+unfoldable pub lowering : List ℕ → Outcome Ty
+lowering ty = do
+  t ← type-of ty
+  refuse never-stands (has-never t)
+  refuse too-large (over-large t)
+  done t
+
+-- the lowered type
+unfoldable pub lowered : List ℕ → Outcome (List ℕ)
+lowered ty = do
+  t ← lowering ty
+  done (type-records (lower t))
+
+-- the shape of a value
+unfoldable pub shaped : List ℕ → List ℕ → Outcome (List ℕ)
+shaped ty val = do
+  t ← lowering ty
+  v ← value-of t val
+  done (shape-file (inject t v))
+
+-- the value file that reading a shape gives
+unfoldable pub reconstructed : List ℕ → List ℕ → Outcome (List ℕ)
+reconstructed ty shape = do
+  t ← type-of ty
+  s ← shape-of shape
+  v ← or-refuse not-reconstructed (reconstruct t s)
+  done (value-file t v)
+
+module _ (p : Place) where
+  -- the frame of a value
+  unfoldable pub framed : List ℕ → List ℕ → Outcome (List ℕ)
+  framed ty val = do
+    t ← lowering ty
+    v ← value-of t val
+    done (frame-file p t v)
+
+  -- the value file that reading a frame gives
+  unfoldable pub unframed : List ℕ → List ℕ → Outcome (List ℕ)
+  unframed ty frame = do
+    t ← lowering ty
+    v ← unframe p t frame
+    done (value-file t v)
+
+  -- the value file of a part
+  unfoldable pub part-read : List ℕ → List ℕ → List ℕ → Outcome (List ℕ)
+  part-read ty frame path = do
+    t ← lowering ty
+    old ← unframed ty frame
+    q ← steps path
+    part ← or-refuse no-such-part (found t q old)
+    done (part-records part old)
+
+  -- the frame of the old value with one part replaced
+  unfoldable pub edited : List ℕ → List ℕ → List ℕ → List ℕ → Outcome (List ℕ)
+  edited ty frame path val = do
+    t ← lowering ty
+    old ← unframed ty frame
+    q ← steps path
+    part ← or-refuse no-such-part (found t q old)
+    w ← value-of (part .type) val
+    framed ty (replaced part old val)
+
+-- REPLIES AND BUFFERS
+
+-- the number, the length and the buffer afterwards. A refusal yields its number and length 0 and changes no buffer;
+-- an accepted result leaves the bytes past its end alone; 17 if it needs more bytes than the buffer has.
+unfoldable pub delivered : Outcome (List ℕ) → List ℕ → ℕ × ℕ × List ℕ
+delivered (refused n) buffer = (n, 0, buffer)
+delivered (done result) buffer =
+    elim (ltb (length buffer) (length result)) [
+      | true ↦ (no-room, 0, buffer)
+      | false ↦ (0, length result, result ++ drop (length result) buffer)
+    ]

@@ -1,17 +1,19 @@
 -- What demands 2 and 3 speak of, each by itself, in 01's words ('Shape', 'Part read and part edit', 'The words of demand 3'); nothing here mentions the edit.
 use mathlib.Core.Path.{_≡_}
+use mathlib.Core.Bool.{false}
 use mathlib.Core.List.{List}
 use mathlib.Core.Option.{some}
 use Prim.Native.Nat.{ℕ}
 use lib.ListN.{length}
 use Rattle.model.specs.Outcome.{done}
+use Rattle.model.specs.Options.{any}
 use Rattle.model.specs.Structural.{SValue, Belongs}
 use Rattle.model.specs.Types.{Ty}
 use Rattle.model.specs.Lowering.{lower}
 use Rattle.model.specs.Values.{Value}
 use Rattle.model.specs.ShapeFiles.{shape-of}
 use Rattle.model.specs.ValueFiles.{value-of}
-use Rattle.model.specs.Frames.{Place, unframe}
+use Rattle.model.specs.Frames.{Place, frame-bytes, stray-bits, unframe}
 use Rattle.model.specs.Paths.{Found, steps, found}
 use Rattle.model.specs.Parts.{Part, part}
 use Rattle.model.specs.Operations.{lowering, unframed}
@@ -30,11 +32,14 @@ pub record ShapeBelongs (ty shape : List ℕ) : Type 0 where
 abbrev pub TypeLowers : List ℕ → Type 0
 TypeLowers ty = (t : Ty) × (lowering ty ≡ done t)
 
--- a frame is then accepted if no frame row holds; `old` is its old value's file
-abbrev pub FrameAccepted : Place → List ℕ → List ℕ → Type 0
-FrameAccepted p ty frame = (old : List ℕ) × (unframed p ty frame ≡ done old)
+-- a frame is then accepted if no frame row holds: its length is the type's, and no padding or tail bit is 1
+pub record FrameAccepted (p : Place) (ty frame : List ℕ) : Type 0 where
+  pub type : Ty
+  pub lowers : lowering ty ≡ done type
+  pub long : length frame ≡ frame-bytes type
+  pub clean : any (stray-bits p type frame) ≡ false
 
--- in that value's file the path leads to the part: its length is even and every step picks a child
+-- in its old value's file the path leads to the part: its length is even and every step picks a child
 pub record PathLeads (p : Place) (ty frame path : List ℕ) (target : Found) : Type 0 where
   pub type : Ty
   pub lowers : lowering ty ≡ done type

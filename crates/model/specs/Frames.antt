@@ -21,6 +21,10 @@ width 𝟙 = 0
 width (a ⊕ b) = suc (max (width a) (width b))
 width (a ⊗ b) = width a + width b
 
+-- the bytes of a frame of the type
+abbrev pub frame-bytes : Ty → ℕ
+frame-bytes t = bytes-for (width (lower t))
+
 pub data Place : Type 0 where
   after before : Place
 
@@ -78,9 +82,15 @@ module _ (p : Place) where
   padding (a ⊕ b) (true ∷ xs) = beside p (width b) (width a - width b) xs ++ padding b (payload-bits p (width b) (width a - width b) xs)
   padding (a ⊗ b) xs = padding a (take (width a) xs) ++ padding b (drop (width a) xs)
 
-  -- the value of a type that lowers whose frame it is. (Where no padding or tail bit is 1 there is one: a law, `Laws.Demands`.)
+  -- READING a file of the type
+
+  -- the padding and tail bits of a file
+  abbrev pub stray-bits : Ty → List ℕ → List Bool
+  stray-bits t file = padding (lower t) (take (width (lower t)) (bits-of file)) ++ drop (width (lower t)) (bits-of file)
+
+  -- the value of a type that lowers whose frame it is. Where no padding or tail bit is 1 there is one, so the last line refuses nothing: `Laws.Demands`, accepted-frame-reads
   unfoldable pub unframe : (t : Ty) → List ℕ → Outcome (Value t)
   unframe t file = do
-    refuse frame-length (not (eqb (length file) (bytes-for (width (lower t)))))
-    refuse stray-bit (any (padding (lower t) (take (width (lower t)) (bits-of file)) ++ drop (width (lower t)) (bits-of file)))
+    refuse frame-length (not (eqb (length file) (frame-bytes t)))
+    refuse stray-bit (any (stray-bits t file))
     or-refuse stray-bit (reconstruct t (from-bits (lower t) (take (width (lower t)) (bits-of file))))

@@ -2,7 +2,7 @@
 -- 1. the two laws of each kind of file. 2. Demand 2. 3. Demand 3. 4. Sizes.
 use mathlib.Core.Path.{_≡_, refl, sym, ap, ap₂, subst, _∙_}
 use mathlib.Core.List.{List, [], _++_, append-nil}
-use mathlib.Core.Bool.{false}
+use mathlib.Core.Bool.{true, false}
 use mathlib.Core.Logic.{_↔_}
 use mathlib.Core.Option.{Option, none, some, Option·none-ne-some, Option·some-injective}
 use Prim.Native.Nat.{ℕ, _+_, _*_, _≤_, _<_}
@@ -11,6 +11,7 @@ use lib.ListN.{length, take, drop, getD, drop-of-length-le}
 use borrow.Author.Tests.{le-ltb}
 use Rattle.model.specs.Numbers.{stray-bit, frame-length, not-reconstructed, no-such-part, most-type-records, most-shape-records, deepest}
 use Rattle.model.specs.Outcome.{Outcome, done, refused, _>>=_, _>>_, or-refuse}
+use Rattle.model.specs.Options.{any}
 use Rattle.model.specs.Bytes.{Bytes, bits-of, bytes-for}
 use Rattle.model.specs.Structural.{SValue, Belongs, type-records}
 use Rattle.model.specs.Types.{Ty}
@@ -20,7 +21,7 @@ use Rattle.model.specs.Values.{Value, Valid, inject}
 use Rattle.model.specs.Reconstruct.{reconstruct}
 use Rattle.model.specs.ShapeFiles.{shape-of, shape-file}
 use Rattle.model.specs.ValueFiles.{value-of, value-file, encode}
-use Rattle.model.specs.Frames.{Place, width, frame as frame-bits, frame-file, unframe}
+use Rattle.model.specs.Frames.{Place, width, frame-bytes, stray-bits, frame as frame-bits, frame-file, unframe}
 use Rattle.model.specs.Paths.{Found, found, steps, part-records, replaced}
 use Rattle.model.specs.Parts.{Part, part}
 use Rattle.model.specs.Operations.{lowering, lowered, shaped, reconstructed, framed, unframed, part-read, edited, delivered}
@@ -38,7 +39,7 @@ use Rattle.model.specs.Laws.Sizes.{length-type-records, width-nodes, sha
 use Rattle.model.specs.Laws.Parts.{part-there}
 use Rattle.model.specs.Laws.FileParts.{Stands, Leads}
 use Rattle.model.specs.Laws.Lowering.{Known, known}
-use Rattle.model.specs.Laws.Operations.{shape-fits, there, replaced-file, part-file, found-leads, part-allowed, stretch-inside, edited-bits, outside, shaped-is, reconstructed-is, shaped-read, framed-is, unframed-is, Old, unframed-read, framed-read}
+use Rattle.model.specs.Laws.Operations.{shape-fits, there, replaced-file, part-file, found-leads, part-allowed, stretch-inside, stretch-bits, edited-bits, outside, shaped-is, reconstructed-is, shaped-read, framed-is, unframed-is, Old, unframed-read, framed-read}
 
 -- 1. THE TWO LAWS OF EACH KIND OF FILE: what is written is read as itself; what is read is exactly what the writer makes
 
@@ -83,6 +84,9 @@ pub record OneValue (reads writes : List ℕ → Outcome (List ℕ)) (file : Lis
 with-type : {A P : Type 0} (ty : List ℕ) → Bytes ty → (f : Ty → Outcome A) (a : A) → (lowering ty >>= f) ≡ done a → ((t : Ty) → lowering ty ≡ done t → Known ty t → P) → P
 with-type ty b f a h g = let (t, k, m) = outcome-step (lowering ty) f a h in g t k (known ty t b k)
 
+true-false : true ≡ false → ⊥
+true-false h = let z : _≡_ {A = ℕ} 0 1 = cc in omega arith
+
 eleven-twelve : _≡_ {A = Outcome (List ℕ)} (refused frame-length) (refused stray-bit) → ⊥
 eleven-twelve h = let z : _≡_ {A = ℕ} 11 12 = cc in omega arith
 
@@ -123,6 +127,23 @@ module _ (ty : List ℕ) (t : Ty) (k : lowering ty ≡ done t) (q : Known ty t) 
           only = λ other d m. done-injective other val (sym (frame-back other frame d m) ∙ h);
         }
 
+    -- no frame row holds exactly when the frame is read
+    clean-read : (frame : List ℕ) → Bytes frame → length frame ≡ frame-bytes t → any (stray-bits p t frame) ≡ false → (val : List ℕ) × (unframed p ty frame ≡ done val)
+    clean-read frame c n e = go (framing p t (q .lowers) frame c)
+      where
+        go : Framing p t frame → (val : List ℕ) × (unframed p ty frame ≡ done val)
+        go (other-length m f) = absurd (m n)
+        go (stray m x f g) = absurd (true-false (sym x ∙ e))
+        go (whole x v h f g) = (value-file t v, ap (unframed p ty) f ∙ unframed-is p ty t k q v h)
+
+    read-clean : (frame val : List ℕ) → Bytes frame → unframed p ty frame ≡ done val → FrameAccepted p ty frame
+    read-clean frame val c e = let s = unframed-read p ty t k q frame val c e in go (s .value) (s .valid) (s .frame-is) (framing p t (q .lowers) frame c)
+      where
+        go : (v : Value t) → Valid t v → frame ≡ frame-file p t v → Framing p t frame → FrameAccepted p ty frame
+        go v h f (other-length m g) = absurd (m (ap length f ∙ length-frame-file p t v h))
+        go v h f (stray m x g w) = absurd (g v h f)
+        go v h f (whole x u w g y) = record { type = t; lowers = k; long = ap length f ∙ length-frame-file p t v h; clean = x }
+
     refused-by : (frame : List ℕ) (n : ℕ) → unframe p t frame ≡ refused n → unframed p ty frame ≡ refused n
     unfolding unframed
     refused-by frame n e = rw (k, e)
@@ -132,13 +153,21 @@ module _ (ty : List ℕ) (t : Ty) (k : lowering ty ≡ done t) (q : Known ty t) 
       where
         go : Framing p t frame → (unframed p ty frame ≡ refused stray-bit) ↔ ((length frame ≡ bytes-for (width (lower t))) × ((val : List ℕ) → Bytes val → framed p ty val ≡ done frame → ⊥))
         go (other-length n e) = ((λ h. absurd (eleven-twelve (sym (refused-by frame frame-length e) ∙ h))), λ h. absurd (n (h .0)))
-        go (stray n f e) = ((λ h. (n, λ val d m. let s = framed-read p ty t k q val frame d m in f (s .value) (s .valid) (s .frame-is))), λ h. refused-by frame stray-bit e)
-        go (whole v h f e) = (
+        go (stray n c f e) = ((λ h. (n, λ val d m. let s = framed-read p ty t k q val frame d m in f (s .value) (s .valid) (s .frame-is))), λ h. refused-by frame stray-bit e)
+        go (whole c v h f e) = (
           (λ m. absurd (refused-done stray-bit (value-file t v) (sym m ∙ ap (unframed p ty) f ∙ unframed-is p ty t k q v h))),
           λ m. absurd (m .1 (value-file t v) (bytes-value-file t v (q .file .allowed) h) (framed-is p ty t k q v h ∙ ap done (sym f))),
         )
 
 module _ (ty : List ℕ) (b : Bytes ty) where
+  -- every value of a type that lowers has a shape, which belongs to the type
+  pub value-has-shape : (t : Ty) → lowering ty ≡ done t → (val : List ℕ) (v : Value t) → value-of t val ≡ done v → Bytes val → (shape : List ℕ) × (shaped ty val ≡ done shape) × ShapeBelongs ty shape
+  value-has-shape t k val v h c =
+      let q = known ty t b k in
+      let (o, f) = value-written-read t val v c h in
+      let e : shaped ty val ≡ done (shape-file (inject t v)) = ap (shaped ty) f ∙ shaped-is ty t k q v o in
+      (shape-file (inject t v), e, shape-belongs ty t k q val (shape-file (inject t v)) c e)
+
   -- a written value reads back as itself: by its shape
   pub shape-reads-back : (val shape : List ℕ) → Bytes val → shaped ty val ≡ done shape → reconstructed ty shape ≡ done val
   unfolding shaped
@@ -163,15 +192,30 @@ module _ (ty : List ℕ) (b : Bytes ty) where
       (t, v, e, ap (value-of t) (sym (done-injective (value-file t v) val n)) ∙ value-read-written t v (type-written-read ty t b e .allowed) (reconstruct-valid t s v (or-refuse-done not-reconstructed (reconstruct t s) v m)))
 
   module _ (p : Place) where
+    -- every value of a type that lowers has a frame, which is accepted for the type
+    pub value-has-frame : (t : Ty) → lowering ty ≡ done t → (val : List ℕ) (v : Value t) → value-of t val ≡ done v → Bytes val → (frame : List ℕ) × (framed p ty val ≡ done frame) × FrameAccepted p ty frame
+    value-has-frame t k val v h c =
+        let q = known ty t b k in
+        let (o, f) = value-written-read t val v c h in
+        let e : framed p ty val ≡ done (frame-file p t v) = ap (framed p ty) f ∙ framed-is p ty t k q v o in
+        (frame-file p t v, e, read-clean ty t k q p (frame-file p t v) val (bytes-frame-file p t v) (frame-back ty t k q p val (frame-file p t v) c e))
+
     -- a written value reads back as itself: by its frame
     pub frame-reads-back : (val frame : List ℕ) → Bytes val → framed p ty val ≡ done frame → unframed p ty frame ≡ done val
     unfolding framed
     frame-reads-back val frame c h = with-type ty b _ frame h (λ t k q. frame-back ty t k q p val frame c h)
 
-    -- a frame that is accepted for the type reads as exactly one value, which writes it again
-    pub accepted-frame-reads : (frame val : List ℕ) → Bytes frame → unframed p ty frame ≡ done val → OneValue (unframed p ty) (framed p ty) frame
+    -- a frame of the type, that is, one of the right length whose padding and tail bits are zero, reads as exactly one value, which writes it again
+    pub accepted-frame-reads : (frame : List ℕ) → Bytes frame → FrameAccepted p ty frame → OneValue (unframed p ty) (framed p ty) frame
+    accepted-frame-reads frame c a =
+        let q = known ty (a .type) b (a .lowers) in
+        let (val, h) = clean-read ty (a .type) (a .lowers) q p frame c (a .long) (a .clean) in
+        one-frame ty (a .type) (a .lowers) q p frame val c h
+
+    -- and no other is read
+    pub frame-accepted : (frame : List ℕ) → Bytes frame → ((val : List ℕ) × (unframed p ty frame ≡ done val)) ↔ FrameAccepted p ty frame
     unfolding unframed
-    accepted-frame-reads frame val c h = with-type ty b _ val h (λ t k q. one-frame ty t k q p frame val c h)
+    frame-accepted frame c = ((λ r. with-type ty b _ (r .0) (r .1) (λ t k q. read-clean ty t k q p frame (r .0) c (r .1))), λ a. clean-read ty (a .type) (a .lowers) (known ty (a .type) b (a .lowers)) p frame c (a .long) (a .clean))
 
     -- row 12 holds exactly when the length is right and no value has that frame
     pub row-12 : (t : Ty) → lowering ty ≡ done t → (frame : List ℕ) → Bytes frame → (unframed p ty frame ≡ refused stray-bit) ↔ ((length frame ≡ bytes-for (width (lower t))) × ((val : List ℕ) → Bytes val → framed p ty val ≡ done frame → ⊥))
@@ -194,6 +238,15 @@ pub record Edit (p : Place) (ty frame path val : List ℕ) (target : Found) (old
   pub bits : bits-of result ≡ take bit (bits-of frame) ++ frame-bits p (target .type) new ++ drop (bit + width (lower (target .type))) (bits-of frame)
   -- no bit outside it has changed, tail included
   pub others : (i : ℕ) → (i < bit → getD (bits-of result) i false ≡ getD (bits-of frame) i false) × (bit + width (lower (target .type)) ≤ i → getD (bits-of result) i false ≡ getD (bits-of frame) i false)
+
+-- what a part of a frame is: records i to j of its value's file are the value file of the part's value, and the bits of the whole are
+-- those that writing the whole writes before the part, the part's own frame bits, and those behind them
+pub record Reading (p : Place) (ty frame path : List ℕ) (target : Found) (old : List ℕ) : Type 0 where
+  pub value : Value (target .type)
+  pub reads : value-of (target .type) (part-records target old) ≡ done value
+  pub bit : ℕ
+  pub begins : Begins p ty frame path bit
+  pub bits : bits-of frame ≡ begins .place .ahead ++ frame-bits p (target .type) value ++ drop (bit + width (lower (target .type))) (bits-of frame)
 
 module _ (p : Place) (ty : List ℕ) (t : Ty) (k : lowering ty ≡ done t) (q : Known ty t) (frame old : List ℕ) (s : Old p ty t k q frame old) (path picks : List ℕ) (even : steps path ≡ done picks) where
   module _ (c : Part (Value t)) (e : part p t picks (s .value) ≡ some c) (st : Stands p (encode t) c (found t picks (value-file t (s .value)))) where
@@ -227,10 +280,18 @@ module _ (p : Place) (ty : List ℕ) (t : Ty) (k : lowering ty ≡ done t) (q : 
           others = λ j. outside (bits-of frame) (bits-of (frame-file p t (c .put new))) (frame-bits p (c .type) new) (length (c .ahead)) (width (lower (c .type))) j (omega (arith, length-bits-of frame)) w x;
         }
 
-    read-there : HasType at-part (part-records at-part old)
+    read-there : Reading p ty frame path at-part old
+    unfolding begins-there
     read-there =
         let l = part-there p t picks (s .value) c (s .valid) e in
-        (c .value, ap (λ f. value-of (c .type) (part-records at-part f)) (s .file-is) ∙ ap (value-of (c .type)) (part-file p t (s .value) c l (found t picks (value-file t (s .value))) st) ∙ value-read-written (c .type) (c .value) (part-allowed p picks t (s .value) c (q .file .allowed) e) (l .valid))
+        let x = stretch-bits p t (s .value) picks c (s .valid) e in
+        record {
+          value = c .value;
+          reads = ap (λ f. value-of (c .type) (part-records at-part f)) (s .file-is) ∙ ap (value-of (c .type)) (part-file p t (s .value) c l (found t picks (value-file t (s .value))) st) ∙ value-read-written (c .type) (c .value) (part-allowed p picks t (s .value) c (q .file .allowed) e) (l .valid);
+          bit = length (c .ahead);
+          begins = begins-there;
+          bits = ap bits-of (s .frame-is) ∙ x ∙ ap (λ y. c .ahead ++ frame-bits p (c .type) (c .value) ++ drop (length (c .ahead) + width (lower (c .type))) (bits-of y)) (sym (s .frame-is));
+        }
 
   -- what holds of each part of the value holds of each part that the path leads to in the file
   leads-there : (target : Found) → found t picks old ≡ some target → (P : Found → Type 0) → ((c : Part (Value t)) (e : part p t picks (s .value) ≡ some c) (st : Stands p (encode t) c (found t picks (value-file t (s .value)))) → P (at-part c e st)) → P target
@@ -243,8 +304,8 @@ module _ (p : Place) (ty : List ℕ) (t : Ty) (k : lowering ty ≡ done t) (q : 
       go none e st = absurd (Option·none-ne-some target (sym st ∙ found-there))
       go (some c) e st = subst P (Option·some-injective (at-part c e st) target (sym (st .leads) ∙ found-there)) (h c e st)
 
-  part-at : (target : Found) → found t picks old ≡ some target → HasType target (part-records target old)
-  part-at target leads = leads-there target leads (λ f. HasType f (part-records f old)) read-there
+  part-at : (target : Found) → found t picks old ≡ some target → Reading p ty frame path target old
+  part-at target leads = leads-there target leads (λ f. Reading p ty frame path f old) read-there
 
   edit-at : (target : Found) → found t picks old ≡ some target → (val : List ℕ) (new : Value (target .type)) → Bytes val → value-of (target .type) val ≡ done new → Edit p ty frame path val target old new
   edit-at target leads = leads-there target leads (λ f. (val : List ℕ) (new : Value (f .type)) → Bytes val → value-of (f .type) val ≡ done new → Edit p ty frame path val f old new) edit-there
@@ -262,7 +323,7 @@ module _ (p : Place) (ty frame path val : List ℕ) where
   unfolding edited
   edit-chain target l new h = rw (l .lowers, l .accepted, l .even, l .leads, h)
 
-  edit-conditions : (result : List ℕ) → edited p ty frame path val ≡ done result → TypeLowers ty × FrameAccepted p ty frame × ((target : Found) × PathLeads p ty frame path target × HasType target val)
+  edit-conditions : (result : List ℕ) → edited p ty frame path val ≡ done result → TypeLowers ty × ((old : List ℕ) × (unframed p ty frame ≡ done old)) × ((target : Found) × PathLeads p ty frame path target × HasType target val)
   unfolding edited
   edit-conditions result h =
       let (t, k, a) = outcome-step (lowering ty) _ result h in
@@ -283,7 +344,7 @@ module _ (p : Place) (ty frame path val : List ℕ) where
 
     -- accepted exactly when the type lowers, the frame is accepted for it, the path leads to a part present in it, and the new value has that part's type
     pub edit-accepted : ((result : List ℕ) × (edited p ty frame path val ≡ done result)) ↔ (TypeLowers ty × FrameAccepted p ty frame × ((target : Found) × PathLeads p ty frame path target × HasType target val))
-    edit-accepted = ((λ r. edit-conditions (r .0) (r .1)), λ c. let (e, g) = edit-leaves (c .2 .0) (c .2 .1) (c .2 .2) in (e .result, g))
+    edit-accepted = ((λ r. let c = edit-conditions (r .0) (r .1) in (c .0, frame-accepted ty tyb p frame fb .0 (c .1), c .2)), λ c. let (e, g) = edit-leaves (c .2 .0) (c .2 .1) (c .2 .2) in (e .result, g))
 
     -- in the lent buffer: accepted, the frame's own bytes become the result
     pub edit-in-place : (result : List ℕ) → edited p ty frame path val ≡ done result → delivered (edited p ty frame path val) frame ≡ (0, length frame, result)
@@ -305,8 +366,8 @@ module _ (p : Place) (ty frame path : List ℕ) (tyb : Bytes ty) (fb : Bytes fra
   unfolding part-read
   part-chain target l = rw (l .lowers, l .accepted, l .even, l .leads)
 
-  -- part read gives records i to j of what reading the frame gives, and they are a value file of the part's type
-  pub part-read-gives : (target : Found) (l : PathLeads p ty frame path target) → (part-read p ty frame path ≡ done (part-records target (l .old))) × HasType target (part-records target (l .old))
+  -- part read gives records i to j of what reading the frame gives
+  pub part-read-gives : (target : Found) (l : PathLeads p ty frame path target) → (part-read p ty frame path ≡ done (part-records target (l .old))) × Reading p ty frame path target (l .old)
   part-read-gives target l =
       let q = known ty (l .type) tyb (l .lowers) in
       (part-chain target l, part-at p ty (l .type) (l .lowers) q frame (l .old) (unframed-read p ty (l .type) (l .lowers) q frame (l .old) fb (l .accepted)) path (l .picks) (l .even) target (l .leads))
@@ -337,14 +398,9 @@ module _ (ty : List ℕ) (b : Bytes ty) (t : Ty) (k : lowering ty ≡ done t) wh
   lowered-records = (rw k, known ty t b k .size)
 
   -- a shape of the type has at most as many
-  pub shape-records-at-most : (val shape : List ℕ) → Bytes val → shaped ty val ≡ done shape → length shape ≤ length (type-records (lower t))
-  shape-records-at-most val shape c h =
-      let s = shaped-read ty t k (known ty t b k) val shape c h in
-      omega (arith, ap length (s .shape-is), shape-size (inject-belongs t (s .value) (s .valid)), length-type-records (lower t))
+  pub shape-records-at-most : (shape : List ℕ) (tree : SValue) → shape-of shape ≡ done tree → Belongs (lower t) tree → length shape ≤ length (type-records (lower t))
+  shape-records-at-most shape tree h o = omega (arith, ap length (shape-written-read shape tree h .0), shape-size o, length-type-records (lower t))
 
   -- no frame exceeds 4,096 bytes
-  pub frame-bytes-at-most : (p : Place) (val frame : List ℕ) → Bytes val → framed p ty val ≡ done frame → length frame ≤ 4096
-  frame-bytes-at-most p val frame c h =
-      let q = known ty t b k in
-      let s = framed-read p ty t k q val frame c h in
-      omega (arith, ap length (s .frame-is), length-frame-file p t (s .value) (s .valid), frame-limit (lower t) (q .size))
+  pub frame-bytes-at-most : frame-bytes t ≤ 4096
+  frame-bytes-at-most = frame-limit (lower t) (known ty t b k .size)

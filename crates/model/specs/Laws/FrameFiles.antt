@@ -18,7 +18,7 @@ use Rattle.model.specs.Types.{Ty}
 use Rattle.model.specs.Lowering.{lower}
 use Rattle.model.specs.Values.{Value, Valid, inject}
 use Rattle.model.specs.Reconstruct.{reconstruct}
-use Rattle.model.specs.Frames.{Place, width, bits, frame, frame-file, from-bits, padding, unframe}
+use Rattle.model.specs.Frames.{Place, width, bits, frame, frame-file, stray-bits, from-bits, padding, unframe}
 use Rattle.model.specs.Laws.Outcome.{refused-done, done-injective}
 use Rattle.model.specs.Laws.Bytes.{length-bits-of, filled, filled-is}
 use Rattle.model.specs.Laws.Frames.{any-append, append-any, any-zeros, zeros-any, length-bits, from-bits-bits, padding-bits, from-bits-belongs, bits-from-bits}
@@ -74,8 +74,8 @@ module _ (p : Place) where
   -- what reading a file of the type comes to
   pub data Framing (t : Ty) (file : List ℕ) : Type 0 where
     other-length : (length file ≡ bytes-for (width (lower t)) → ⊥) → unframe p t file ≡ refused frame-length → Framing t file
-    stray : length file ≡ bytes-for (width (lower t)) → ((v : Value t) → Valid t v → file ≡ frame-file p t v → ⊥) → unframe p t file ≡ refused stray-bit → Framing t file
-    whole : (v : Value t) → Valid t v → file ≡ frame-file p t v → unframe p t file ≡ done v → Framing t file
+    stray : length file ≡ bytes-for (width (lower t)) → any (stray-bits p t file) ≡ true → ((v : Value t) → Valid t v → file ≡ frame-file p t v → ⊥) → unframe p t file ≡ refused stray-bit → Framing t file
+    whole : any (stray-bits p t file) ≡ false → (v : Value t) → Valid t v → file ≡ frame-file p t v → unframe p t file ≡ done v → Framing t file
 
   -- bits of the right length without a stray bit are those of a value
   module _ (t : Ty) (l : Lowers t) (file : List ℕ) (b : Bytes file) (n : length file ≡ bytes-for (width (lower t))) where
@@ -106,7 +106,7 @@ module _ (p : Place) where
         let (x, y) = any-append (padding p (lower t) own) (drop (width (lower t)) (bits-of file)) c in
         let r = reconstructs-shape t l (from-bits p (lower t) own) (from-bits-belongs p (lower t) own length-own) in
         let e = frame-of-bits (r .value) x (r .back) in
-        whole (r .value) (r .valid) (file-of-bits (r .value) (r .valid) e y) (rw (eq-eqb (length file) (bytes-for (width (lower t))) n, c, r .reads))
+        whole c (r .value) (r .valid) (file-of-bits (r .value) (r .valid) e y) (rw (eq-eqb (length file) (bytes-for (width (lower t))) n, c, r .reads))
 
     strayed : any (padding p (lower t) own ++ drop (width (lower t)) (bits-of file)) ≡ true → unframe p t file ≡ refused stray-bit
     unfolding unframe
@@ -116,7 +116,7 @@ module _ (p : Place) where
     right-length = go (any (padding p (lower t) own ++ drop (width (lower t)) (bits-of file))) refl
       where
         go : (x : Bool) → any (padding p (lower t) own ++ drop (width (lower t)) (bits-of file)) ≡ x → Framing t file
-        go true c = stray n (λ v h e. refused-done stray-bit v (sym (strayed c) ∙ ap (unframe p t) e ∙ frame-read-written t v h)) (strayed c)
+        go true c = stray n c (λ v h e. refused-done stray-bit v (sym (strayed c) ∙ ap (unframe p t) e ∙ frame-read-written t v h)) (strayed c)
         go false c = accepted c
 
   wrong-length : (t : Ty) (file : List ℕ) → eqb (length file) (bytes-for (width (lower t))) ≡ false → unframe p t file ≡ refused frame-length
@@ -136,5 +136,5 @@ module _ (p : Place) where
     where
       go : Framing t file → Valid t v × (file ≡ frame-file p t v)
       go (other-length n e) = absurd (refused-done frame-length v (sym e ∙ h))
-      go (stray n k e) = absurd (refused-done stray-bit v (sym e ∙ h))
-      go (whole w k f e) = let q : w ≡ v = done-injective w v (sym e ∙ h) in rw (← q) (k, f)
+      go (stray n c k e) = absurd (refused-done stray-bit v (sym e ∙ h))
+      go (whole c w k f e) = let q : w ≡ v = done-injective w v (sym e ∙ h) in rw (← q) (k, f)

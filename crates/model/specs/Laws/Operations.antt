@@ -139,6 +139,15 @@ module _ (p : Place) (t : Ty) (v : Value t) (path : List ℕ) (c : Part (Value t
       ap length s ∙ length-append (c .ahead ++ frame p (c .type) (c .value)) (l .stretch .back) ∙ ap (λ k. k + length (l .stretch .back)) (length-append (c .ahead) (frame p (c .type) (c .value))) in
       omega (arith, length-frame p t v h, length-frame p (c .type) (c .value) (l .valid))
 
+  -- the bits of the frame file: those ahead of the part, the part's own, and those behind
+  pub stretch-bits : bits-of (frame-file p t v) ≡ c .ahead ++ frame p (c .type) (c .value) ++ drop (offset c + extent c) (bits-of (frame-file p t v))
+  stretch-bits =
+      let l = part-there p t path v c h e in
+      let x : bits-of (frame-file p t v) ≡ c .ahead ++ frame p (c .type) (c .value) ++ (l .stretch .back ++ zeros (8 * bytes-for (width (lower t)) - width (lower t))) =
+      bits-frame-file p t v h ∙ ap (λ y. y ++ zeros (8 * bytes-for (width (lower t)) - width (lower t))) (sym (ap (frame p t) (l .same)) ∙ l .stretch .splits (c .value) (l .valid)) ∙ append-assoc (c .ahead ++ frame p (c .type) (c .value)) (l .stretch .back) _ in
+      let n : length (c .ahead ++ frame p (c .type) (c .value)) ≡ offset c + extent c = length-append (c .ahead) (frame p (c .type) (c .value)) ∙ ap (λ k. length (c .ahead) + k) (length-frame p (c .type) (c .value) (l .valid)) in
+      x ∙ ap (λ y. c .ahead ++ frame p (c .type) (c .value) ++ y) (sym (ap (drop (offset c + extent c)) x ∙ drop-at (c .ahead ++ frame p (c .type) (c .value)) _ (offset c + extent c) n))
+
   -- the bits of the edited frame file: those of the old one, with the part's own in its stretch
   pub edited-bits : (w : Value (c .type)) → Valid (c .type) w → bits-of (frame-file p t (c .put w)) ≡ take (offset c) (bits-of (frame-file p t v)) ++ frame p (c .type) w ++ drop (offset c + extent c) (bits-of (frame-file p t v))
   edited-bits w o =

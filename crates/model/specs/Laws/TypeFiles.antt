@@ -217,7 +217,8 @@ head-is r k h e c q = rw (← q) (record { same = e; can = c })
 zero-said : (k : Head) (j n : ℕ) (h : Head) → trec j 0 ≡ head-record k → Sayable k → when (eqb n 0) (some k) ≡ some h → HeadSaid (trec j n) h
 zero-said k j n h q c m = let (e, f) = when-some (eqb n 0) k h m in head-is (trec j n) k h (ap (trec j) (eqb-true n 0 e) ∙ q) c f
 
-find-sound : (f : ℕ → ℕ) (fuel i n k : ℕ) → find f fuel i n ≡ some k → (n ≡ f k) × (k < i + fuel)
+-- a number that is found is at the place that is told
+pub find-sound : (f : ℕ → ℕ) (fuel i n k : ℕ) → find f fuel i n ≡ some k → (n ≡ f k) × (k < i + fuel)
 find-sound f zero i n k h = absurd (Option·none-ne-some k h)
 find-sound f (suc fuel) i n k h = go (eqb n (f i)) refl (find-sound f fuel (suc i) n k) h
   where

@@ -1,0 +1,160 @@
+// Powers of two, after num.rs: a list bound and a bit width keep their two types.
+// `new` admits what a type file can say (01, kinds 7 and 2): bounds from 2 to 32,768, widths from 1 to 256.
+
+ghost use mathlib.Core.Path.{_≡_};
+ghost use Prim.Native.Nat.{_*_, _≤_};
+ghost use Rattle.num.specs.Powers.{bound, width, exponent-of, bound-of, bound-log2, half-bound, width-of, width-log2, half-width};
+
+// 1 and the list bounds: 2 ^ 0 to 2 ^ 15.
+const BOUND_POWERS: usize = 16;
+
+// The bit widths: 2 ^ 0 to 2 ^ 8.
+const WIDTH_POWERS: usize = 9;
+
+// The exponent of a power of two, if the number is one.
+enum Found {
+    At(usize),
+    Nothing,
+}
+
+// The k below `count` with 2 ^ k = n, or `Nothing` where there is none.
+fn exponent(n: usize, count: usize) -> Found
+    requires { ⌜ count ≤ 16 ⌝ }
+    ensures { λ r. ⌜ r ≡ exponent-of count n ⌝ }
+{
+    let mut power: usize = 1;
+    let mut k: usize = 0;
+    while k < count {
+        if power == n {
+            return Found::At(k);
+        }
+        power = power * 2;
+        k += 1;
+    }
+    Found::Nothing
+}
+
+// An integer that is known to be a power of two with nonzero exponent: a list bound.
+pub struct NonZeroPow2Usize(usize);
+
+// A list bound, where there is one.
+pub enum Bound {
+    Of(NonZeroPow2Usize),
+    Not,
+}
+
+impl NonZeroPow2Usize {
+    // The smallest list bound.
+    pub const TWO: NonZeroPow2Usize = NonZeroPow2Usize(2);
+
+    // The list bound n, or `Not` where n is no power of two from 2 to 32,768.
+    pub fn new(n: usize) -> Bound
+        ensures { λ r. ⌜ r ≡ bound-of n ⌝ }
+    {
+        match exponent(n, BOUND_POWERS) {
+            Found::At(k) => {
+                if k == 0 {
+                    Bound::Not
+                } else {
+                    Bound::Of(NonZeroPow2Usize(n))
+                }
+            }
+            Found::Nothing => Bound::Not,
+        }
+    }
+
+    // The bound as a number.
+    pub fn get(self) -> usize
+        ensures { λ r. ⌜ r ≡ self .0 ⌝ }
+    {
+        self.0
+    }
+
+    // The binary logarithm: k of the bound 2 ^ k, at least 1 (0 for a number that `new` does not admit).
+    pub fn log2(self) -> usize
+        ensures { λ r. ⌜ r ≡ bound-log2 (self .0) ⌝ }
+    {
+        match exponent(self.0, BOUND_POWERS) {
+            Found::At(k) => k,
+            Found::Nothing => 0,
+        }
+    }
+
+    // The next power of two, for a bound below the largest.
+    pub fn mul2(self) -> NonZeroPow2Usize
+        requires { ⌜ self .0 ≤ 16384 ⌝ }
+        ensures { λ r. ⌜ r ≡ bound (self .0 * 2) ⌝ }
+    {
+        NonZeroPow2Usize(self.0 * 2)
+    }
+
+    // The previous power of two, or `Not` at 2.
+    pub fn checked_div2(self) -> Bound
+        ensures { λ r. ⌜ r ≡ half-bound (self .0) ⌝ }
+    {
+        let half = self.0 / 2;
+        if half < 2 {
+            Bound::Not
+        } else {
+            Bound::Of(NonZeroPow2Usize(half))
+        }
+    }
+}
+
+// An integer that is known to be a power of two: a bit width.
+pub struct Pow2Usize(usize);
+
+// A bit width, where there is one.
+pub enum Width {
+    Of(Pow2Usize),
+    Not,
+}
+
+impl Pow2Usize {
+    // The bit width n, or `Not` where n is no power of two from 1 to 256.
+    pub fn new(n: usize) -> Width
+        ensures { λ r. ⌜ r ≡ width-of n ⌝ }
+    {
+        match exponent(n, WIDTH_POWERS) {
+            Found::At(_) => Width::Of(Pow2Usize(n)),
+            Found::Nothing => Width::Not,
+        }
+    }
+
+    // The width as a number.
+    pub fn get(self) -> usize
+        ensures { λ r. ⌜ r ≡ self .0 ⌝ }
+    {
+        self.0
+    }
+
+    // The binary logarithm: k of the width 2 ^ k (0 for a number that `new` does not admit).
+    pub fn log2(self) -> usize
+        ensures { λ r. ⌜ r ≡ width-log2 (self .0) ⌝ }
+    {
+        match exponent(self.0, WIDTH_POWERS) {
+            Found::At(k) => k,
+            Found::Nothing => 0,
+        }
+    }
+
+    // The next power of two, for a width below the largest.
+    pub fn mul2(self) -> Pow2Usize
+        requires { ⌜ self .0 ≤ 128 ⌝ }
+        ensures { λ r. ⌜ r ≡ width (self .0 * 2) ⌝ }
+    {
+        Pow2Usize(self.0 * 2)
+    }
+
+    // The previous power of two, or `Not` at 1.
+    pub fn checked_div2(self) -> Width
+        ensures { λ r. ⌜ r ≡ half-width (self .0) ⌝ }
+    {
+        let half = self.0 / 2;
+        if half < 1 {
+            Width::Not
+        } else {
+            Width::Of(Pow2Usize(half))
+        }
+    }
+}

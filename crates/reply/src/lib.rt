@@ -1,0 +1,73 @@
+// What an operation answers: the length of its result, or why it is refused. One refusal for each row of 01's table, in its order.
+ghost use mathlib.Core.Path.{_≡_};
+ghost use Rattle.reply.specs.Numbers.{refusalNumber, numberOf, lengthOf};
+
+pub enum Refusal {
+    TypeLength,
+    TypeTooLong,
+    BadRecord,
+    TooDeep,
+    NotOneType,
+    NeverStands,
+    TooLarge,
+    ShapeTooLong,
+    NotOneTree,
+    NotReconstructed,
+    FrameLength,
+    StrayBit,
+    PathOdd,
+    NoSuchPart,
+    ValueLength,
+    NotOneValue,
+    NoRoom,
+}
+
+pub enum Reply {
+    Done(usize),
+    Refused(Refusal),
+}
+
+// The table's number of a refusal.
+pub fn refusal_number(x: Refusal) -> u32
+    ensures { λ r. ⌜ r ≡ refusalNumber x ⌝ }
+{
+    match x {
+        Refusal::TypeLength => 1,
+        Refusal::TypeTooLong => 2,
+        Refusal::BadRecord => 3,
+        Refusal::TooDeep => 4,
+        Refusal::NotOneType => 5,
+        Refusal::NeverStands => 6,
+        Refusal::TooLarge => 7,
+        Refusal::ShapeTooLong => 8,
+        Refusal::NotOneTree => 9,
+        Refusal::NotReconstructed => 10,
+        Refusal::FrameLength => 11,
+        Refusal::StrayBit => 12,
+        Refusal::PathOdd => 13,
+        Refusal::NoSuchPart => 14,
+        Refusal::ValueLength => 15,
+        Refusal::NotOneValue => 16,
+        Refusal::NoRoom => 17,
+    }
+}
+
+// The number of a reply: 0 where the operation is accepted.
+pub fn number(x: Reply) -> u32
+    ensures { λ r. ⌜ r ≡ numberOf x ⌝ }
+{
+    match x {
+        Reply::Done(_) => 0,
+        Reply::Refused(y) => refusal_number(y),
+    }
+}
+
+// The length of a reply: 0 where the operation is refused.
+pub fn length_of(x: Reply) -> usize
+    ensures { λ r. ⌜ r ≡ lengthOf x ⌝ }
+{
+    match x {
+        Reply::Done(n) => n,
+        Reply::Refused(_) => 0,
+    }
+}

@@ -1,0 +1,11 @@
+pub mod Facts
+pub mod Rows
+pub mod Sums
+pub mod Right
+pub mod Entries
+pub mod Flags
+pub mod Lowering
+pub mod Steps
+pub mod Arms
+pub mod Measuring
+pub mod Tabled

@@ -1,0 +1,13 @@
+pub mod Record
+pub mod Heads
+pub mod Walks
+pub mod Table
+pub mod Trees
+pub mod Facts
+pub mod Unique
+pub mod Steps
+pub mod Accepted
+pub mod Runs
+pub mod Tables
+pub mod Lows
+pub mod Model

@@ -1,0 +1,54 @@
+-- The invariant: the first i bits are written. The measure is what is left of n.
+use mathlib.Core.Path.{_≡_, sym, ap}
+use Prim.Native.Nat.{_-_, _≤_}
+use Rattle.bits.specs.Bits.{bits-at, Wrote}
+use Rattle.bits.specs.Laws.Runs.{length-bits-at, bits-at-add}
+use Rattle.bits.specs.Laws.Writing.{wrote-none, wrote-same, wrote-step}
+use native.Mathlib.Omega.{arith}
+use Rattle.bits.proofs.copy_bits.Statement.{statement}
+use Rattle.bits.proofs.copy_bits.Tie as tie
+
+abbrev Inv-loop : tie.InvT-loop
+Inv-loop src from dst₀ at n i₀ dst i = (i ≤ n) × Wrote dst₀ at (bits-at src from i) dst
+
+abbrev μ-loop : tie.MeasureT-loop
+μ-loop src from dst₀ at n i₀ dst i = n - i
+
+loop-holds : tie.Need-loop-holds Inv-loop μ-loop
+loop-holds c = (omega arith, wrote-none)
+
+loop-again : tie.Need-loop-again Inv-loop μ-loop
+loop-again c =
+    let a = c .before .before .before .before .before .before .before .before .args in
+    let t = c .before .before .before .before .before .loop in
+    let z = c .before .before .copy-step in (
+      omega arith,
+      wrote-step (bits-at (a .src .now) (a .from)) (t .i) (t .inv .1) (z .ensures) (length-bits-at (a .src .now) (a .from) (t .i) (omega arith)) (sym (bits-at-add (a .src .now) (a .from) (t .i) (z .result))),
+    )
+
+same-length : tie.Need-same-length Inv-loop μ-loop
+same-length c = c .before .loop .inv .1 .same
+
+returns : tie.Need-returns Inv-loop μ-loop
+returns c =
+    let a = c .before .before .before .before .args in
+    let t = c .before .loop in
+    let e : t .i ≡ a .n = omega arith in
+    wrote-same (t .inv .1) (ap (bits-at (a .src .now) (a .from)) e)
+
+pub copy-bits-spec : {M : Type 1} → statement M
+copy-bits-spec =
+    tie.close
+    (tie.spec
+    Inv-loop
+    μ-loop
+    loop-holds
+    (λ c. omega arith)
+    (λ c. omega arith)
+    (λ c. omega arith)
+    (λ c κs. omega arith)
+    (λ c. omega arith)
+    (λ c. omega arith)
+    loop-again
+    same-length
+    returns)

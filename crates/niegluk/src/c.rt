@@ -1,0 +1,15 @@
+// The entries as C functions: the number is the result, and the length goes behind the last pointer.
+use reply::length_of;
+use reply::number;
+ghost use mathlib.Core.Path.{_≡_};
+ghost use Rattle.model.specs.Operations.{lowered, delivered};
+
+// `lower` for C: the number, 0 where the type is lowered; `length` is 0 where it is not.
+#[no_mangle]
+pub extern "C" fn niegluk_lower(ty: &[u8], out: &mut [u8], length: &mut usize) -> u32
+    ensures { λ r. ⌜ (r, now (length .exit), now (out .exit)) ≡ delivered (lowered (now (ty .entry))) (now (out .entry)) ⌝ }
+{
+    let reply = crate::lower(ty, out);
+    *length = length_of(reply);
+    number(reply)
+}

@@ -1,0 +1,29 @@
+// The public entries: each takes whole files and a buffer for its result, asks nothing of its caller, and answers a `Reply`.
+use reply::Refusal;
+use reply::Reply;
+use structural::write_lowered;
+use table::tabulate;
+use types::TypeAnswer;
+ghost use mathlib.Core.Path.{_≡_};
+ghost use Rattle.model.specs.Operations.{lowered, delivered};
+ghost use Rattle.reply.specs.Numbers.{numberOf, lengthOf};
+
+mod c;
+
+// Writes the lowered type of a type file over the front of `out`, and answers its length; every byte behind it stays, and all of them where it is refused.
+pub fn lower(ty: &[u8], out: &mut [u8]) -> Reply
+    ensures { λ r. ⌜ (numberOf r, lengthOf r, now (out .exit)) ≡ delivered (lowered (now (ty .entry))) (now (out .entry)) ⌝ }
+{
+    let mut ends = [0usize; 1024];
+    let mut sizes = [0usize; 1024];
+    let mut widths = [0usize; 1024];
+    match tabulate(ty, &mut ends, &mut sizes, &mut widths) {
+        TypeAnswer::Refused(x) => Reply::Refused(x),
+        TypeAnswer::Ok(_) => {
+            if out.len() < sizes[0] {
+                return Reply::Refused(Refusal::NoRoom);
+            }
+            Reply::Done(write_lowered(ty, &ends, 0, 32, out))
+        }
+    }
+}

@@ -1,0 +1,5 @@
+pub mod Writing
+pub mod Bounds
+pub mod Trees
+pub mod Lists
+pub mod Forms

@@ -1,0 +1,46 @@
+/* niegluk: files of types, values, shapes and frames.
+ *
+ * Every function takes whole files as bytes, writes its result to the front of a buffer that the caller lends, and
+ * answers a number: 0 where the operation is accepted, else the number of the first row that refuses it.
+ *
+ *     1   the type file's length is zero or no multiple of 4
+ *     2   the type file has over 1,024 records
+ *     3   a record of the type file is bad: its kind, its byte 1 or its n, or a Variant where a type belongs or the reverse
+ *     4   a record of the type file is deeper than 32, the root being 1
+ *     5   a record of the type file is missing, or some are left over
+ *     6   Never stands anywhere in the type
+ *     7   the type, a type in it or a payload type lowers to over 65,536 records
+ *    17   the result needs more bytes than the buffer has
+ *
+ * The length of the result goes to *length: 0 where the operation is refused. A buffer of exactly that length is enough.
+ * An accepted result leaves every byte of the buffer past its end as it was; a refusal leaves all of them.
+ *
+ * The caller sees to it that
+ * - each pointer points to as many bytes as the length after it says (a null pointer may stand only where that length
+ *   is 0), and `length` to a size_t, and that no one writes them while the function runs;
+ * - the memory behind no two pointers overlaps.
+ * Nothing else is asked: any bytes may stand in the files, of any length.
+ *
+ * The functions take no memory but the stack and keep nothing between calls: they are reentrant, and may be called from
+ * any number of threads at once.
+ */
+#ifndef NIEGLUK_H
+#define NIEGLUK_H
+
+#include <stddef.h>
+#include <stdint.h>
+
+#ifdef __cplusplus
+extern "C" {
+#endif
+
+/* Lowers a type: writes the lowered type's records, one byte each (0 a unit, 1 a sum, 2 a product), parent first.
+ * At most 65,536 bytes. Numbers 1 to 7 and 17.
+ * Stack: at most 216 KiB, 24 of them for a table; the rest grows with the parts of one tuple or Enum. */
+uint32_t niegluk_lower(const uint8_t *ty, size_t ty_len, uint8_t *out, size_t out_len, size_t *length);
+
+#ifdef __cplusplus
+}
+#endif
+
+#endif

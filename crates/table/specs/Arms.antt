@@ -81,9 +81,6 @@ times-is S n p a x ea ex = ex ∙ ap (λ m. cut (n * m)) ea
 pub array-is : (S W : List ℕ) (n p x y : ℕ) (r : facts.Facts) → x ≡ cut (n * entry S p) → y ≡ cut (n * entry W p) → r ≡ product (record { size = x; width = y }) n → r ≡ arrayFacts S W n p
 array-is S W n p x y r ex ey e = e ∙ ap₂ (λ a b. product (record { size = a; width = b }) n) ex ey
 
-pub small-enough : (n x y : ℕ) → n < 65536 → x ≡ cut y → (x ≤ 65537) × (n < 65536)
-small-enough n x y h e = (omega arith, h)
-
 module _ (b : NonZeroPow2Usize) (f : FairBound b) (g l : ℕ) (eg : g ≡ b .0) where
   pub bound-some : 1 ≤ g
   bound-some = let r = bound-range b f in omega arith
@@ -118,9 +115,6 @@ sum-fits E S W n p f e o h = let k : f .size ≤ 65537 = rw e (sums-small E S W 
 
 pub row-small : (E S W : List ℕ) (n p : ℕ) (f : facts.Facts) → f ≡ sums E S W n p 0 0 → n < 65536 → (f .size ≤ 65537) × (n < 65536)
 row-small E S W n p f e h = (rw e (sums-small E S W n p 0 0 (omega arith)), h)
-
-pub enum-range : (n : ℕ) → (1 ≤ n) × (n < 65536) → (1 ≤ n) × (n ≤ 65536)
-enum-range n h = (h .0, omega arith)
 
 pub enum-is : (E S W : List ℕ) (n p x : ℕ) (f : facts.Facts) (g : sum.Sum) → f ≡ sums E S W n p 0 0 → x ≡ cut (f .size + (n - 1)) → g ≡ sumWidth (btree n) E W p → _≡_ {A = facts.Facts} (record { size = x; width = g .width }) (enumFacts E S W n p)
 enum-is E S W n p x f g ef ex eg =

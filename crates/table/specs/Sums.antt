@@ -25,9 +25,6 @@ use Rattle.table.specs.Rows.{skip, skip-add, take-lows, drop-lows, First
 pub cut-cut : (a : ℕ) → cut (cut a) ≡ cut a
 cut-cut a = omega arith
 
-pub cut-add : (a b c : ℕ) → cut (cut a + cut b + c) ≡ cut (a + b + c)
-cut-add a b c = omega arith
-
 cut-sum : (a x : ℕ) → cut (cut a + cut x) ≡ cut (a + x)
 cut-sum a x = omega arith
 

@@ -277,7 +277,8 @@ rows =
     ∷ answers (lowered nothing) [] (17, 0, [])
     ∷ []
 
--- TWO ROWS AT ONCE; the comments name them. Left out is what cannot be: rows 9 and 10 (10 needs a tree), and rows of files that no operation takes together.
+-- TWO ROWS AT ONCE; the comments name them. Left out is what cannot be: rows 9 and 10 (10 needs a tree), rows 10 and 12 with 1 to 5 (they need a type),
+-- and rows of files that no operation takes together.
 -- In one type file
 
 type-pairs : List Case

@@ -1,10 +1,9 @@
 -- How the walks of specs/ go by one step, in the form in which the code's needs ask it. Assumes nothing.
-use Rattle.reply.specs.declared.Refusal.{Refusal}
 use Rattle.reply.specs.declared.Refusal.the-variants.{TooDeep}
 use mathlib.Core.Path.{_≡_, refl, sym, subst, _∙_}
 use mathlib.Core.List.{List}
 use mathlib.Core.Bool.{Bool, true, false}
-use Prim.Native.Nat.{ℕ, zero, suc, _+_, _-_, _*_, _^_, _<_, _≤_, _/_}
+use Prim.Native.Nat.{ℕ, zero, suc, _+_, _-_, _^_, _<_, _≤_, _/_}
 use native.Mathlib.Numerals.{sub-one}
 use native.Mathlib.Omega.{arith}
 use lib.ListN.{length}
@@ -15,7 +14,7 @@ use borrow.Author.Tests.{ltb-true}
 use Rattle.types.specs.declared.Rec.{Rec}
 use Rattle.types.specs.declared.Rec.the-variants.{Gone, Wrong, Types, Enum, Variant}
 use Rattle.types.specs.declared.Walk.{Walk}
-use Rattle.types.specs.declared.Walk.the-variants.{End, Bad}
+use Rattle.types.specs.declared.Walk.the-variants.{Bad}
 use Rattle.types.specs.Record.{headAt, recAt}
 use Rattle.types.specs.Walks.{opens, next, many, walk}
 
@@ -38,23 +37,10 @@ There (Variant n) = Unit
 pub there : (s : List ℕ) (at : ℕ) (r k : Rec) → r ≡ recAt s at → r ≡ k → There k → at < length s / 4
 there s at r k p e h = present s at r p (λ g. subst There (sym e ∙ g) h)
 
-module _ (f : ℕ → Walk) where
-  pub many-none : (n at : ℕ) → n ≡ 0 → End at ≡ many f n at
-  unfolding many
-  many-none n at e = rw e
-
-  pub many-more : (n at : ℕ) → (n ≡ 0 → ⊥) → many f n at ≡ next (f at) (many f (n - 1))
-  unfolding many
-  many-more zero at h = absurd (h refl)
-  many-more (suc n) at h = rw sub-one
-
-  pub many-go : (n at e : ℕ) (w r : Walk) → (n ≡ 0 → ⊥) → w ≡ f at → w ≡ End e → r ≡ many f (n - 1) e → r ≡ many f n at
-  unfolding next
-  many-go n at e w r h p q u = rw (many-more n at h, ← p, q) u
-
-  pub many-stop : (n at : ℕ) (x : Refusal) (w : Walk) → (n ≡ 0 → ⊥) → w ≡ f at → w ≡ Bad x → Bad x ≡ many f n at
-  unfolding next
-  many-stop n at x w h p q = rw (many-more n at h, ← p, q)
+pub many-more : (f : ℕ → Walk) (n at : ℕ) → (n ≡ 0 → ⊥) → many f n at ≡ next (f at) (many f (n - 1))
+unfolding many
+many-more f zero at h = absurd (h refl)
+many-more f (suc n) at h = rw sub-one
 
 module _ (d : ℕ) (v : Bool) (s : List ℕ) (at : ℕ) (q k : Rec) (r : Walk) (p : q ≡ recAt s at) (e : q ≡ k) where
   pub walk-deep : d ≡ 0 → r ≡ opens v k (λ b n. Bad TooDeep) → r ≡ walk d v s at
@@ -77,25 +63,9 @@ module _ (d : ℕ) (v : Bool) (s : List ℕ) (at : ℕ) (q k : Rec) (r : Walk) (
   pub walk-bad : ((g : Bool → ℕ → Walk) → r ≡ opens v k g) → r ≡ walk d v s at
   walk-bad = walk-not d
 
--- the measures: a level weighs more than all counts that 64 bits hold
-pub into-one : (d n t : ℕ) → d * 2 ^ 65 + n + 1 ≡ t → d * 2 ^ 65 < t
-into-one d n t e = omega arith
-
-pub into-rest : (d n t : ℕ) → (n ≡ 0 → ⊥) → d * 2 ^ 65 + n + 1 ≡ t → d * 2 ^ 65 + (n - 1) + 1 < t
-into-rest d n t h e = omega arith
-
-pub into-parts : (d n t : ℕ) → (d ≡ 0 → ⊥) → n < 2 ^ 64 → d * 2 ^ 65 ≡ t → (d - 1) * 2 ^ 65 + n + 1 < t
-into-parts d n t h l e = omega arith
-
-pub pos : (n : ℕ) → (n ≡ 0 → ⊥) → 1 ≤ n
-pos n h = omega arith
-
 -- the forms in which the code's needs ask it
 pub fits-next : (s : List ℕ) (at : ℕ) (r k : Rec) → r ≡ recAt s at → r ≡ k → There k → length s < 2 ^ 64 → Fits w64 (at + 1)
 fits-next s at r k p e h l = let m = there s at r k p e h in omega arith
 
 pub room-for : (s : List ℕ) (at : ℕ) (r k : Rec) (E E′ : List ℕ) → r ≡ recAt s at → r ≡ k → There k → length s / 4 ≤ length E → length E′ ≡ length E → at < length E′
 room-for s at r k E E′ p e h l m = let q = there s at r k p e h in omega arith
-
-pub as-long : (E E′ E″ : List ℕ) → length E″ ≡ length E′ → length E′ ≡ length E → length E″ ≡ length E
-as-long E E′ E″ p q = p ∙ q

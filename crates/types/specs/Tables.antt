@@ -15,7 +15,7 @@ use Rattle.types.specs.declared.Walk.{Walk}
 use Rattle.types.specs.declared.Walk.the-variants.{End, Bad}
 use Rattle.types.specs.Walks.{next, many, walk}
 use Rattle.types.specs.Table.{EndsAt, Filled, Table, Walked, marked}
-use Rattle.types.specs.Facts.{many-none, many-more, many-go, many-stop}
+use Rattle.types.specs.Facts.{many-more}
 
 le-or-lt : (a b : ℕ) → (a ≤ b) ⊎ (b < a)
 le-or-lt a b = go (leb a b) refl
@@ -24,10 +24,10 @@ le-or-lt a b = go (leb a b) refl
     go true p = inl (leb-true a b p)
     go false p = inr (leb-false a b p)
 
-pub filled-none : (s : List ℕ) (a : ℕ) (E : List ℕ) → Filled s a a E E
+filled-none : (s : List ℕ) (a : ℕ) (E : List ℕ) → Filled s a a E E
 filled-none s a E = record { grows = le-refl a; below = λ i l. refl; filled = λ i h l. absurd (omega arith) }
 
-pub filled-more : (s : List ℕ) (a e f : ℕ) (E E′ E″ : List ℕ) → Filled s a e E E′ → Filled s e f E′ E″ → Filled s a f E E″
+filled-more : (s : List ℕ) (a e f : ℕ) (E E′ E″ : List ℕ) → Filled s a e E E′ → Filled s e f E′ E″ → Filled s a f E E″
 filled-more s a e f E E′ E″ p q = record {
   grows = omega arith;
   below = λ i l. q .below i (omega arith) ∙ p .below i l;
@@ -61,23 +61,6 @@ walked-node d v s a w u r E E′ E″ h p l q m = record {
 
 pub walked-bad : (w : Walk) (s : List ℕ) (a : ℕ) (x : Refusal) (E E′ : List ℕ) → Bad x ≡ w → Walked w s a (Bad x) E E′
 walked-bad w s a x E E′ p = record { answer = p; table = tt }
-
-module _ (f : ℕ → Walk) (s : List ℕ) where
-  pub walked-none : (n a : ℕ) (E : List ℕ) → n ≡ 0 → Walked (many f n a) s a (End a) E E
-  walked-none n a E z = record { answer = many-none f n a z; table = filled-none s a E }
-
-  more : (r : Walk) (a e : ℕ) (E E′ E″ : List ℕ) → Filled s a e E E′ → Table r s e E′ E″ → Table r s a E E″
-  more (End g) a e E E′ E″ p q = filled-more s a e g E E′ E″ p q
-  more (Bad x) a e E E′ E″ p q = tt
-
-  pub walked-more : (n a e : ℕ) (w r : Walk) (E E′ E″ : List ℕ) → (n ≡ 0 → ⊥) → Walked (f a) s a w E E′ → w ≡ End e → Walked (many f (n - 1) e) s e r E′ E″ → Walked (many f n a) s a r E E″
-  walked-more n a e w r E E′ E″ h p q u = record {
-    answer = many-go f n a e w r h (p .answer) q (u .answer);
-    table = more r a e E E′ E″ (subst (λ (x : Walk). Table x s a E E′) q (p .table)) (u .table);
-  }
-
-  pub walked-stop : (n a : ℕ) (x : Refusal) (w : Walk) (E E′ : List ℕ) → (n ≡ 0 → ⊥) → Walked (f a) s a w E E′ → w ≡ Bad x → Walked (many f n a) s a (Bad x) E E′
-  walked-stop n a x w E E′ h p q = record { answer = many-stop f n a x w h (p .answer) q; table = tt }
 
 pub walked-end : {u w : Walk} {s : List ℕ} {a e : ℕ} {E E′ : List ℕ} → Walked u s a w E E′ → w ≡ End e → Filled s a e E E′
 walked-end {u} {w} {s} {a} {e} {E} {E′} h q = subst (λ (x : Walk). Table x s a E E′) q (h .table)

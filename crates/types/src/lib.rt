@@ -210,13 +210,18 @@ fn types(ty: &[u8], ends: &mut [usize], at: usize, depth: usize, n: usize) -> Wa
     requires { ⌜ length (now ty) / 4 ≤ length (now ends) ⌝ }
     ensures { λ r. ⌜ Walked (many (walk depth false (now (ty .entry))) n at) (now (ty .entry)) at r (now (ends .entry)) (now (ends .exit)) ⌝ }
 {
-    if n == 0 {
-        return Walk::End(at);
+    let mut p = at;
+    let mut left = n;
+    while 0 < left {
+        match walk_type(ty, ends, p, depth) {
+            Walk::End(e) => {
+                p = e;
+                left -= 1;
+            }
+            Walk::Bad(x) => return Walk::Bad(x),
+        }
     }
-    match walk_type(ty, ends, at, depth) {
-        Walk::End(e) => types(ty, ends, e, depth, n - 1),
-        Walk::Bad(x) => Walk::Bad(x),
-    }
+    Walk::End(p)
 }
 
 // n Variants from place `at`.
@@ -224,13 +229,18 @@ fn variants(ty: &[u8], ends: &mut [usize], at: usize, depth: usize, n: usize) ->
     requires { ⌜ length (now ty) / 4 ≤ length (now ends) ⌝ }
     ensures { λ r. ⌜ Walked (many (walk depth true (now (ty .entry))) n at) (now (ty .entry)) at r (now (ends .entry)) (now (ends .exit)) ⌝ }
 {
-    if n == 0 {
-        return Walk::End(at);
+    let mut p = at;
+    let mut left = n;
+    while 0 < left {
+        match walk_variant(ty, ends, p, depth) {
+            Walk::End(e) => {
+                p = e;
+                left -= 1;
+            }
+            Walk::Bad(x) => return Walk::Bad(x),
+        }
     }
-    match walk_variant(ty, ends, at, depth) {
-        Walk::End(e) => variants(ty, ends, e, depth, n - 1),
-        Walk::Bad(x) => Walk::Bad(x),
-    }
+    Walk::End(p)
 }
 
 // Rows 1 to 5 of a type file, and where each record's subtree ends.

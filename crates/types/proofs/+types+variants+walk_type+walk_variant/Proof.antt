@@ -1,8 +1,9 @@
 use borrow.Author.Needs.{needs}
-use Prim.Native.Nat.{_+_, _*_, _^_}
-use Rattle.types.specs.Walks.{opens}
-use Rattle.types.specs.Facts.{walk-deep, walk-go, walk-bad, into-one, into-rest, into-parts, pos, fits-next, room-for, as-long}
-use Rattle.types.specs.Tables.{walked-none, walked-more, walked-stop, walked-bad, walked-node}
+use Prim.Native.Nat.{_+_, _*_}
+use mathlib.Core.Bool.{true, false}
+use Rattle.types.specs.Walks.{opens, walk}
+use Rattle.types.specs.Facts.{walk-deep, walk-go, walk-bad, fits-next, room-for}
+use Rattle.types.specs.Tables.{walked-bad, walked-node, Going, going-start, going-on, going-stop, going-end}
 use Prim.Native.Nat.{ℕ, _<_}
 use borrow.Fn.Kinds.{In}
 use borrow.Fn.PlainCycle.{Measures, is, falls, and}
@@ -23,19 +24,19 @@ use Rattle.types.proofs.rec_at.Reads as rec-at-reads
 use Rattle.types.proofs.+types+variants+walk_type+walk_variant.{statement}
 use Rattle.types.proofs.+types+variants+walk_type+walk_variant.Tie.{close}
 
-ruleset steps = (walked-none, walked-more, walked-stop, walked-bad, walk-bad, walk-deep, walked-node, walk-go, room-for, fits-next, into-one, into-rest, into-parts, pos, as-long, needs)
+ruleset steps = (going-start, going-on, going-stop, going-end, walked-bad, walk-bad, walk-deep, walked-node, walk-go, room-for, fits-next, needs)
 
 abbrev μ-types : Measures 2 types-kinds.ps ℕ
-μ-types κs a = a .1 .1 .1 .0 * 2 ^ 65 + a .1 .1 .1 .1 .0 + 1
+μ-types κs a = a .1 .1 .1 .0 * 2 + 1
 
 abbrev μ-variants : Measures 2 variants-kinds.ps ℕ
-μ-variants κs a = a .1 .1 .1 .0 * 2 ^ 65 + a .1 .1 .1 .1 .0 + 1
+μ-variants κs a = a .1 .1 .1 .0 * 2 + 1
 
 abbrev μ-walk-type : Measures 2 walk-type-kinds.ps ℕ
-μ-walk-type κs a = a .1 .1 .1 .0 * 2 ^ 65
+μ-walk-type κs a = a .1 .1 .1 .0 * 2
 
 abbrev μ-walk-variant : Measures 2 walk-variant-kinds.ps ℕ
-μ-walk-variant κs a = a .1 .1 .1 .0 * 2 ^ 65
+μ-walk-variant κs a = a .1 .1 .1 .0 * 2
 
 abbrev types-at : ℕ → In 2 types-kinds.ps
 types-at t = and 2 types-kinds.ps (is 2 types-kinds.ps μ-types t) types.Pre
@@ -70,10 +71,10 @@ walk-variant-below t =
     walk-variant.Pre
 
 abbrev types-calls : ℕ → types-lts.Claims
-types-calls t = (walk-type-below t, walk-type.Post, types-below t, types.Post)
+types-calls t = (walk-type-below t, walk-type.Post)
 
 abbrev variants-calls : ℕ → variants-lts.Claims
-variants-calls t = (walk-variant-below t, walk-variant.Post, variants-below t, variants.Post)
+variants-calls t = (walk-variant-below t, walk-variant.Post)
 
 abbrev walk-type-calls : ℕ → walk-type-lts.Claims
 walk-type-calls t = (rec-at-reads.Asked, rec-at-reads.Learnt, types-below t, types.Post, mark-reads.Asked, mark-reads.Learnt, variants-below t, variants.Post)
@@ -81,10 +82,22 @@ walk-type-calls t = (rec-at-reads.Asked, rec-at-reads.Learnt, types-below t, typ
 abbrev walk-variant-calls : ℕ → walk-variant-lts.Claims
 walk-variant-calls t = (rec-at-reads.Asked, rec-at-reads.Learnt, types-below t, types.Post, mark-reads.Asked, mark-reads.Learnt)
 
+abbrev types-Inv-loop : types-lts.InvT-loop
+types-Inv-loop ty ends₀ at depth n p₀ left₀ ends p left = Going (walk depth false ty) ty n at left p ends₀ ends
+
+abbrev types-μ-loop : types-lts.MeasureT-loop
+types-μ-loop ty ends₀ at depth n p₀ left₀ ends p left = left
+
+abbrev variants-Inv-loop : variants-lts.InvT-loop
+variants-Inv-loop ty ends₀ at depth n p₀ left₀ ends p left = Going (walk depth true ty) ty n at left p ends₀ ends
+
+abbrev variants-μ-loop : variants-lts.MeasureT-loop
+variants-μ-loop ty ends₀ at depth n p₀ left₀ ends p left = left
+
 pub +types+variants+walk-type+walk-variant-spec : {M : Type 1} → statement M
 unfolding opens
 +types+variants+walk-type+walk-variant-spec =
     close μ-types μ-variants μ-walk-type μ-walk-variant
-    (λ t. types-lts.spec (types-calls t) (types-at t) types.Post (λ c. search steps) (λ c κs. search steps) (λ c. search steps) (λ c. search steps) (λ c κs. search steps) (λ c. search steps) (λ c. search steps) (λ c. search steps) (λ c. search steps) (λ c. search steps))
-    (λ t. variants-lts.spec (variants-calls t) (variants-at t) variants.Post (λ c. search steps) (λ c κs. search steps) (λ c. search steps) (λ c. search steps) (λ c κs. search steps) (λ c. search steps) (λ c. search steps) (λ c. search steps) (λ c. search steps) (λ c. search steps))
+    (λ t. types-lts.spec (types-calls t) (types-at t) types.Post types-Inv-loop types-μ-loop (λ c. search steps) (λ c κs. search steps) (λ c. search steps) (λ c. search steps) (λ c. search steps) (λ c. search steps) (λ c. search steps) (λ c. search steps) (λ c. search steps) (λ c. search steps) (λ c. search steps))
+    (λ t. variants-lts.spec (variants-calls t) (variants-at t) variants.Post variants-Inv-loop variants-μ-loop (λ c. search steps) (λ c κs. search steps) (λ c. search steps) (λ c. search steps) (λ c. search steps) (λ c. search steps) (λ c. search steps) (λ c. search steps) (λ c. search steps) (λ c. search steps) (λ c. search steps))
     (λ t. walk-type-lts.spec (walk-type-calls t) (walk-type-at t) walk-type.Post (λ c κs. search steps) (λ c. search steps) (λ c. search steps) (λ c. search steps) (λ c. search steps) (λ c. search steps) (λ c κs. search steps) (λ c κs. search steps) (λ c. search steps) (λ c. search steps) (λ c. search steps) (λ c κs. search steps) (λ c κs. search steps) (λ c. search steps) (λ c. search steps) (λ c. search steps) (λ c. search steps) (λ c. search steps) (λ c. search steps) (λ c. search steps) (λ c. search steps) (λ c. search steps) (λ c. search steps)) λ t. walk-variant-lts.spec (walk-variant-calls t) (walk-variant-at t) walk-variant.Post (λ c κs. search steps) (λ c. search steps) (λ c. search steps) (λ c. search steps) (λ c. search steps) (λ c. search steps) (λ c. search steps) (λ c. search steps) (λ c κs. search steps) (λ c κs. search steps) (λ c. search steps) (λ c. search steps) (λ c. search steps) (λ c. search steps) (λ c. search steps) (λ c. search steps) (λ c. search steps)

@@ -116,12 +116,15 @@ module _ (t : ℕ) where
   halved : (c : write-list-lts.After-half write-list-calls write-list-at write-list.Post) → Halved (c .before .before .before .before .before .before .args .bound) (c .half .given .0 .0) (c .before .before .before .before .before .before .args .level) (c .before .before .before .before .before .before .args .ty .now) (c .before .before .before .before .before .before .args .at)
   halved c = list-more _ _ _ (c .before .before .before .before .before .before .pre .1 .0) (sym (c .half .given .1) ∙ c .before .before .checked-div2 .ensures)
 
+  abbrev list-start : write-list-lts.After-get write-list-calls write-list-at write-list.Post → write-list-lts.Start write-list-calls write-list-at write-list.Post
+  list-start c = c .before .before .before .before .before .before .before .before
+
   abbrev list-records : write-list-lts.Start write-list-calls write-list-at write-list.Post → NonZeroPow2Usize → List ℕ
   list-records s b = type-records (listed (s .args .level) (s .args .ty .now) b (s .args .at))
 
   -- what is written of the list
-  blocks : (c : write-list-lts.After-get write-list-calls write-list-at write-list.Post) → Fork 2 (type-records (block-of (c .before .before .before .before .before .before .before .before .args .level) (c .before .before .before .before .before .before .before .before .args .ty .now) (c .get .result) (c .before .before .before .before .before .before .before .before .args .at))) (list-records (c .before .before .before .before .before .before .before .before) (c .before .before .half .given .0 .0)) (list-records (c .before .before .before .before .before .before .before .before) (c .before .before .before .before .before .before .before .before .args .bound)) (c .before .before .before .before .before .before .before .before .args .out .now)
-  blocks c = list-fork _ (c .get .ensures) (halved (c .before .before)) (c .before .before .before .before .before .before .before .before .pre .1 .1 .1)
+  blocks : (c : write-list-lts.After-get write-list-calls write-list-at write-list.Post) → Fork 2 (type-records (block-of (list-start c .args .level) (list-start c .args .ty .now) (c .get .result) (list-start c .args .at))) (list-records (list-start c) (c .before .before .half .given .0 .0)) (list-records (list-start c) (list-start c .args .bound)) (list-start c .args .out .now)
+  blocks c = list-fork _ (c .get .ensures) (halved (c .before .before)) (list-start c .pre .1 .1 .1)
 
   write-list-write-block-requires : write-list-lts.Need-write-block-requires write-list-calls write-list-at write-list.Post
   write-list-write-block-requires c κs =
@@ -166,12 +169,15 @@ module _ (t : ℕ) where
   write-list-same-length-2 : write-list-lts.Need-same-length-2 write-list-calls write-list-at write-list.Post
   write-list-same-length-2 c = wrote-length (write-list-returns-2 c) (c .before .before .before .before .before .before .before .before .before .before .before .before .before .before .before .before .pre .1 .1 .1)
 
-  -- what the record's form says, of a tree and of a list
-  tree-here : (c : write-record-lts.After-parts write-record-calls write-record-at write-record.Post) → TreeOf (c .parts .given .0 .0) (c .parts .given .0 .1 .0) (c .before .before .before .before .before .before .before .args .level - 1) (c .before .before .before .before .before .before .before .args .ty .now) (c .before .before .before .before .before .before .before .args .ends .now) (c .before .before .before .before .before .before .before .args .at + 1) (standing (c .before .before .before .before .before .before .before .args .level) (c .before .before .before .before .before .before .before .args .ty .now) (c .before .before .before .before .before .before .before .args .at))
-  tree-here c = as-tree (c .before .before .before .before .before .before .before .pre .1 .0) _ _ _ _ (c .before .before .before .head-at .ensures .0) (c .before .before .before .head-at .ensures .1) (c .before .before .form-of .ensures) (c .parts .given .1)
+  abbrev record-start : write-record-lts.After-form-of write-record-calls write-record-at write-record.Post → write-record-lts.Start write-record-calls write-record-at write-record.Post
+  record-start c = c .before .before .before .before .before
 
-  list-here : (c : write-record-lts.After-bound write-record-calls write-record-at write-record.Post) → ListOf (c .bound .given .0 .0) (c .before .before .before .before .before .before .before .args .level - 1) (c .before .before .before .before .before .before .before .args .ty .now) (c .before .before .before .before .before .before .before .args .ends .now) (c .before .before .before .before .before .before .before .args .at + 1) (standing (c .before .before .before .before .before .before .before .args .level) (c .before .before .before .before .before .before .before .args .ty .now) (c .before .before .before .before .before .before .before .args .at))
-  list-here c = as-list (c .before .before .before .before .before .before .before .pre .1 .0) _ _ _ (c .before .before .before .head-at .ensures .0) (c .before .before .before .head-at .ensures .1) (c .before .before .form-of .ensures) (c .bound .given .1)
+  -- what the record's form says, of a tree and of a list
+  tree-here : (c : write-record-lts.After-parts write-record-calls write-record-at write-record.Post) → TreeOf (c .parts .given .0 .0) (c .parts .given .0 .1 .0) (record-start (c .before .before) .args .level - 1) (record-start (c .before .before) .args .ty .now) (record-start (c .before .before) .args .ends .now) (record-start (c .before .before) .args .at + 1) (standing (record-start (c .before .before) .args .level) (record-start (c .before .before) .args .ty .now) (record-start (c .before .before) .args .at))
+  tree-here c = as-tree (record-start (c .before .before) .pre .1 .0) _ _ _ _ (c .before .before .before .head-at .ensures .0) (c .before .before .before .head-at .ensures .1) (c .before .before .form-of .ensures) (c .parts .given .1)
+
+  list-here : (c : write-record-lts.After-bound write-record-calls write-record-at write-record.Post) → ListOf (c .bound .given .0 .0) (record-start (c .before .before) .args .level - 1) (record-start (c .before .before) .args .ty .now) (record-start (c .before .before) .args .ends .now) (record-start (c .before .before) .args .at + 1) (standing (record-start (c .before .before) .args .level) (record-start (c .before .before) .args .ty .now) (record-start (c .before .before) .args .at))
+  list-here c = as-list (record-start (c .before .before) .pre .1 .0) _ _ _ (c .before .before .before .head-at .ensures .0) (c .before .before .before .head-at .ensures .1) (c .before .before .form-of .ensures) (c .bound .given .1)
 
   write-record-write-tree-requires : write-record-lts.Need-write-tree-requires write-record-calls write-record-at write-record.Post
   write-record-write-tree-requires c κs =
@@ -192,19 +198,19 @@ module _ (t : ℕ) where
   write-record-returns-2 : write-record-lts.Need-returns-2 write-record-calls write-record-at write-record.Post
   write-record-returns-2 c = wrote-as (ap type-records (list-here (c .before .before .before .before .before) .same)) (c .before .before .write-list .ensures)
 
-  abbrev start : write-tree-lts.After-btree-split-index write-tree-calls write-tree-at write-tree.Post → write-tree-lts.Start write-tree-calls write-tree-at write-tree.Post
-  start c = c .before .before .before .before .before .before .before
+  abbrev tree-start : write-tree-lts.After-btree-split-index write-tree-calls write-tree-at write-tree.Post → write-tree-lts.Start write-tree-calls write-tree-at write-tree.Post
+  tree-start c = c .before .before .before .before .before .before .before
 
   abbrev tree-records : write-tree-lts.Start write-tree-calls write-tree-at write-tree.Post → ℕ → ℕ → List ℕ
   tree-records s n p = type-records (balanced (s .args .parts) (s .args .level) (s .args .ty .now) n p)
 
-  split : (c : write-tree-lts.After-btree-split-index write-tree-calls write-tree-at write-tree.Post) → Shares (start c .args .n) (c .btree-split-index .result)
+  split : (c : write-tree-lts.After-btree-split-index write-tree-calls write-tree-at write-tree.Post) → Shares (tree-start c .args .n) (c .btree-split-index .result)
   split c = shares (c .btree-split-index .ensures) (c .before .before .before .if1 .left) (c .before .before .if2 .left)
 
   -- what is written of the tree, with the right side's parts from q on
-  sides : (c : write-tree-lts.After-btree-split-index write-tree-calls write-tree-at write-tree.Post) (q : ℕ) → q ≡ skip (start c .args .parts) (start c .args .level) (start c .args .ty .now) (c .btree-split-index .result) (start c .args .at)
-      → Fork (c .before .joint .result) (tree-records (start c) (c .btree-split-index .result) (start c .args .at)) (tree-records (start c) (start c .args .n - c .btree-split-index .result) q) (tree-records (start c) (start c .args .n) (start c .args .at)) (start c .args .out .now)
-  sides c q e = tree-fork _ _ _ _ _ _ _ _ _ (c .btree-split-index .ensures) (c .before .before .before .if1 .left) (c .before .before .if2 .left) (c .before .joint .ensures) e (start c .pre .1 .1 .1)
+  sides : (c : write-tree-lts.After-btree-split-index write-tree-calls write-tree-at write-tree.Post) (q : ℕ) → q ≡ skip (tree-start c .args .parts) (tree-start c .args .level) (tree-start c .args .ty .now) (c .btree-split-index .result) (tree-start c .args .at)
+      → Fork (c .before .joint .result) (tree-records (tree-start c) (c .btree-split-index .result) (tree-start c .args .at)) (tree-records (tree-start c) (tree-start c .args .n - c .btree-split-index .result) q) (tree-records (tree-start c) (tree-start c .args .n) (tree-start c .args .at)) (tree-start c .args .out .now)
+  sides c q e = tree-fork _ _ _ _ _ _ _ _ _ (c .btree-split-index .ensures) (c .before .before .before .if1 .left) (c .before .before .if2 .left) (c .before .joint .ensures) e (tree-start c .pre .1 .1 .1)
 
   write-tree-sub-others : write-tree-lts.Need-sub-others write-tree-calls write-tree-at write-tree.Post
   write-tree-sub-others c = let l = split c in omega arith
@@ -218,7 +224,7 @@ module _ (t : ℕ) where
   write-tree-write-tree-requires : write-tree-lts.Need-write-tree-requires write-tree-calls write-tree-at write-tree.Post
   write-tree-write-tree-requires c κs =
       let l = split (c .before) in
-      (omega arith, (omega arith, (left-given l (start (c .before) .pre .1 .1 .0), left-room (sides (c .before) _ refl))))
+      (omega arith, (omega arith, (left-given l (tree-start (c .before) .pre .1 .1 .0), left-room (sides (c .before) _ refl))))
 
   write-tree-add-k : write-tree-lts.Need-add-k write-tree-calls write-tree-at write-tree.Post
   write-tree-add-k c = omega (arith, left-small (sides (c .before .before .before .before .before) _ refl) (c .before .before .before .write-tree .ensures .wrote))
@@ -233,7 +239,7 @@ module _ (t : ℕ) where
   write-tree-write-tree-requires-2 c κs =
       let l = split (c .before .before .before .before .before .before) in
       let v = c .before .before .before .before .write-tree .ensures in
-      (omega arith, (omega arith, (right-given l (start (c .before .before .before .before .before .before) .pre .1 .1 .0) (v .next), right-room (sides (c .before .before .before .before .before .before) _ (v .next)) (v .wrote))))
+      (omega arith, (omega arith, (right-given l (tree-start (c .before .before .before .before .before .before) .pre .1 .1 .0) (v .next), right-room (sides (c .before .before .before .before .before .before) _ (v .next)) (v .wrote))))
 
   write-tree-add-t22 : write-tree-lts.Need-add-t22 write-tree-calls write-tree-at write-tree.Post
   write-tree-add-t22 c = let g = c .before .before .before .before .before .before .before .before .before .before .before .before .before .before .before .before .before .good in omega (arith, fork-small (sides (c .before .before .before .before .before .before .before .before .before .before) _ (c .before .before .before .before .before .before .before .before .write-tree .ensures .next)) (c .before .before .before .before .before .before .before .before .write-tree .ensures .wrote) (c .before .before .before .write-tree2 .ensures .wrote))

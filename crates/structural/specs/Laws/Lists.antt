@@ -1,5 +1,5 @@
 -- Laws of lists, as code writes them: a block of 1, or a block of half the bound and the list with that bound.
-use mathlib.Core.Path.{_≡_, sym, ap, _∙_}
+use mathlib.Core.Path.{_≡_, sym, ap}
 use mathlib.Core.List.{List}
 use Prim.Native.Nat.{ℕ, zero, suc, _-_, _^_, _<_}
 use native.Mathlib.Nat.{two-pow-succ, one-le-pow}
@@ -25,7 +25,8 @@ list-two {b} d s p f h = go (f .exponent) (power-of f)
     go : (e : ℕ) → Power b e → partition-type (bound-log2 (b .0) - 1) (standing d s p) ≡ 𝟙 ⊕ balanced Copies d s 1 p
     go zero k = rw (k .log2) (ap (λ t. 𝟙 ⊕ t) (sym (copies d s 1 p)))
     go (suc e) k =
-        let m : half-bound (b .0) ≡ bounds.Of (bound (2 ^ suc e)) = ap half-bound (k .power) ∙ sym (half-bound-more e) in
+        let m = ap half-bound (k .power) in
+        let o = half-bound-more e in
         let z : _≡_ {A = ℕ} 0 1 = cc in absurd (omega arith)
 
 -- with a larger one it is a block of the half, and the list with that bound
@@ -40,10 +41,12 @@ list-more {b} {h} d s p f q = go (f .exponent) (power-of f)
   where
     go : (e : ℕ) → Power b e → Halved b h d s p
     go zero k =
-        let m : half-bound (b .0) ≡ bounds.Not = ap half-bound (k .power) ∙ sym half-bound-two in
+        let m = ap half-bound (k .power) in
+        let o = half-bound-two in
         let z : _≡_ {A = ℕ} 0 1 = cc in absurd (omega arith)
     go (suc e) k =
-        let m : half-bound (b .0) ≡ bounds.Of (bound (2 ^ suc e)) = ap half-bound (k .power) ∙ sym (half-bound-more e) in
+        let m = ap half-bound (k .power) in
+        let o = half-bound-more e in
         let i : h ≡ bound (2 ^ suc e) = cc in
         let a = bound-power e (omega arith) in
         rw i (record {

@@ -13,7 +13,6 @@ use Rattle.model.specs.Structural.{SType, partition-type}
 use Rattle.model.specs.Frames.{width}
 use Rattle.model.specs.TypeFiles.{widths}
 use Rattle.model.specs.Laws.Sizes.{nodes, nodes-partition-zero, nodes-partition-suc, width-partition-zero, width-partition-suc}
-use Rattle.table.specs.declared.Facts as facts
 use Rattle.table.specs.Facts.{limit, cut}
 
 -- CUTTING A MULTIPLE

@@ -50,7 +50,7 @@ opened-variant true (Enum n) k e h = bad-end h
 opened-variant true (Variant n) k e h = refl
 
 -- where a Variant is expected one stands, and nowhere else
-walked-variant : (d : ℕ) (v : Bool) (s : List ℕ) (p e : ℕ) → walk d v s p ≡ End e → is-variant (recAt s p) ≡ v
+pub walked-variant : (d : ℕ) (v : Bool) (s : List ℕ) (p e : ℕ) → walk d v s p ≡ End e → is-variant (recAt s p) ≡ v
 unfolding walk
 walked-variant zero v s p e h = opened-variant v (recAt s p) _ e h
 walked-variant (suc d) v s p e h = opened-variant v (recAt s p) _ e h

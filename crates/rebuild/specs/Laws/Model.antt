@@ -1,0 +1,259 @@
+-- The law that joins the readers with the model: where a shape stands in a file, `reads` answers if and only if `reconstruct` gives a value,
+-- with the end of the shape and the number of the value's records.
+use mathlib.Core.Path.{_≡_, refl, sym, ap, ap₂, _∙_}
+use mathlib.Core.Bool.{Bool}
+use mathlib.Core.List.{List, [], _∷_, append-nil}
+use mathlib.Core.Logic.{inl, inr}
+use mathlib.Core.Option.{Option, none, some}
+use Prim.Native.Nat.{ℕ, zero, suc, _+_, _*_, _≤_, _^_}
+use native.Mathlib.Nat.{zero-add}
+use native.Mathlib.Omega.{arith}
+use lib.ListN.{length, getD, replicate, length-append}
+use Rattle.model.specs.Outcome.{done}
+use Rattle.model.specs.Options.{mapO, bindO, mapM, flatMap}
+use Rattle.model.specs.Bytes.{of-bits}
+use Rattle.model.specs.Balanced.{btree, fold}
+use Rattle.model.specs.Structural.{SValue, unit, left, right, pair, shape-records}
+use Rattle.model.specs.Types.{Ty, Tys, Variants, never, bool, uint, either, option, tuple, array, list, enum, nil, cons, last, more, size, count}
+use Rattle.model.specs.Values.{Value}
+use Rattle.model.specs.ValueFiles.{value-bytes, encode, encodes, encode-choice, value-file}
+use Rattle.model.specs.ShapeFiles.{shape-of}
+use Rattle.model.specs.Reconstruct.{as-tuple, as-bit, combine, as-enum-leaf, reconstruct, reconstructs, choose}
+use Rattle.model.specs.Laws.Balanced.{btree-leaves}
+use Rattle.model.specs.Laws.Records.{length-written}
+use Rattle.model.specs.Laws.ShapeFiles.{shape-written-read}
+use Rattle.model.specs.Laws.ValueFiles.{length-value-bytes}
+use Rattle.rebuild.specs.declared.Records.{Records}
+use Rattle.rebuild.specs.declared.Records.the-variants as records
+use Rattle.rebuild.specs.Reads.{records-in, value-records, Reader, blocks, lists, reads, readers, cases}
+use Rattle.rebuild.specs.Laws.Places.{Counter, plusO, unit-count, sum-count, pair-count, any-count, no-count, answer, Same, Sames, units-same, sums-same, pairs-same, fails-same, one-same, same-as, sames-replicate, products-same, choices-same}
+use Rattle.rebuild.specs.Laws.Counts.{zip, total, product-zip, product-total, list-count, list-total, sum-leaf}
+
+-- WHAT THE MODEL COUNTS
+
+-- the records of the value that a shape gives
+abbrev pub records-of : (t : Ty) → Counter
+records-of t x = mapO (λ v. length (encode t v)) (reconstruct t x)
+
+abbrev all-of : Tys → List Counter
+all-of nil = []
+all-of (cons t ts) = records-of t ∷ all-of ts
+
+abbrev tuple-of : Tys → Counter
+tuple-of ts x = mapO (λ v. length (encodes ts v)) (bindO (as-tuple (size ts) x) (λ ss. reconstructs ts ss))
+
+abbrev cases-of : Variants → List Counter
+cases-of (last ts) = tuple-of ts ∷ []
+cases-of (more ts vs) = tuple-of ts ∷ cases-of vs
+
+map-bind : {A B C : Type 0} (o : Option A) (f : A → Option B) (g : B → C) → mapO g (bindO o f) ≡ bindO o (λ a. mapO g (f a))
+map-bind none f g = refl
+map-bind (some a) f g = refl
+
+map-map : {A B C : Type 0} (o : Option A) (f : A → B) (g : B → C) → mapO g (mapO f o) ≡ mapO (λ a. g (f a)) o
+map-map none f g = refl
+map-map (some a) f g = refl
+
+bind-ext : {A B : Type 0} (o : Option A) (f g : A → Option B) → ((a : A) → f a ≡ g a) → bindO o f ≡ bindO o g
+bind-ext none f g h = refl
+bind-ext (some a) f g h = h a
+
+map-ext : {A B : Type 0} (o : Option A) (f g : A → B) → ((a : A) → f a ≡ g a) → mapO f o ≡ mapO g o
+map-ext none f g h = refl
+map-ext (some a) f g h = ap some (h a)
+
+length-all : (ts : Tys) → length (all-of ts) ≡ size ts
+length-all nil = refl
+length-all (cons t ts) = ap suc (length-all ts)
+
+length-cases : (vs : Variants) → length (cases-of vs) ≡ count vs
+length-cases (last ts) = refl
+length-cases (more ts vs) = ap suc (length-cases vs)
+
+-- the records of two values, one behind the other
+two-of : {A B C : Type 0} (a : Option A) (b : Option B) (f : A → B → C) (g : A → ℕ) (h : B → ℕ) (k : C → ℕ) → ((x : A) (y : B) → k (f x y) ≡ g x + h y)
+    → plusO (mapO g a) (mapO h b) ≡ mapO k (bindO a (λ x. mapO (λ y. f x y) b))
+two-of none b f g h k e = refl
+two-of (some x) none f g h k e = refl
+two-of (some x) (some y) f g h k e = ap some (sym (e x y))
+
+zip-all : (ts : Tys) (xs : List SValue) → zip (all-of ts) xs ≡ mapO (λ v. length (encodes ts v)) (reconstructs ts xs)
+unfolding reconstruct encode
+zip-all nil [] = refl
+zip-all nil (x ∷ xs) = refl
+zip-all (cons t ts) [] = refl
+zip-all (cons t ts) (x ∷ xs) = ap (plusO (records-of t x)) (zip-all ts xs) ∙ two-of (reconstruct t x) (reconstructs ts xs) (λ v vs. (v, vs)) _ _ _ (λ v vs. length-append (encode t v) (encodes ts vs))
+
+product-all : (ts : Tys) (x : SValue) → fold pair-count any-count (btree (size ts)) (all-of ts) x ≡ tuple-of ts x
+product-all ts x = product-zip (size ts) (all-of ts) x (length-all ts) ∙ bind-ext (as-tuple (size ts) x) _ _ (zip-all ts) ∙ sym (map-bind (as-tuple (size ts) x) (λ ss. reconstructs ts ss) _)
+
+module _ {A B : Type 0} (f : SValue → Option A) (g : A → List B) where
+  total-map : (xs : List SValue) → total (λ x. mapO (λ v. length (g v)) (f x)) xs ≡ mapO (λ vs. length (flatMap g vs)) (mapM f xs)
+  total-map [] = refl
+  total-map (x ∷ xs) = ap (plusO (mapO (λ v. length (g v)) (f x))) (total-map xs) ∙ two-of (f x) (mapM f xs) (λ v vs. v ∷ vs) _ _ _ (λ v vs. length-append (g v) (flatMap g vs))
+
+-- so the parts taken out of a shape are counted
+counted : {A B : Type 0} (o : Option A) (f : A → Option B) (c : A → Option ℕ) (g h : B → ℕ) → ((a : A) → c a ≡ mapO g (f a)) → ((b : B) → 1 + g b ≡ h b) → mapO (λ n. 1 + n) (bindO o c) ≡ mapO h (bindO o f)
+counted none f c g h e k = refl
+counted (some a) f c g h e k = ap (mapO (λ n. 1 + n)) (e a) ∙ map-map (f a) g _ ∙ map-ext (f a) _ h k
+
+lifted : {A B : Type 0} (o : Option A) (f : A → B) (g : A → ℕ) (h : B → ℕ) → ((a : A) → 1 + g a ≡ h (f a)) → mapO (λ n. 1 + n) (mapO g o) ≡ mapO h (mapO f o)
+lifted none f g h e = refl
+lifted (some a) f g h e = ap some (e a)
+
+-- EACH KIND
+
+-- the records of a value are one, and those of its parts
+abbrev Counts : Ty → Counter → Type 0
+Counts t c = (x : SValue) → mapO (λ n. 1 + n) (c x) ≡ records-of t x
+
+abbrev bit-count : Counter
+bit-count = sum-count unit-count unit-count
+
+bool-count : Counts bool bit-count
+unfolding reconstruct encode
+bool-count unit = refl
+bool-count (left unit) = refl
+bool-count (left (left x)) = refl
+bool-count (left (right x)) = refl
+bool-count (left (pair x y)) = refl
+bool-count (right unit) = refl
+bool-count (right (left x)) = refl
+bool-count (right (right x)) = refl
+bool-count (right (pair x y)) = refl
+bool-count (pair x y) = refl
+
+bit-is : (x : SValue) → bit-count x ≡ mapO (λ (b : Bool). 0) (as-bit x)
+bit-is unit = refl
+bit-is (left unit) = refl
+bit-is (left (left x)) = refl
+bit-is (left (right x)) = refl
+bit-is (left (pair x y)) = refl
+bit-is (right unit) = refl
+bit-is (right (left x)) = refl
+bit-is (right (right x)) = refl
+bit-is (right (pair x y)) = refl
+bit-is (pair x y) = refl
+
+bits-are : (xs : List SValue) → total bit-count xs ≡ mapO (λ (l : List Bool). 0) (mapM as-bit xs)
+bits-are [] = refl
+bits-are (x ∷ xs) = ap₂ plusO (bit-is x) (bits-are xs) ∙ two-of (as-bit x) (mapM as-bit xs) (λ b bs. b ∷ bs) (λ b. 0) (λ l. 0) (λ l. 0) (λ b bs. refl)
+
+uint-count : (w : ℕ) → Counts (uint w) (fold pair-count any-count (btree w) (replicate w bit-count))
+unfolding reconstruct encode
+uint-count w x =
+    ap (mapO (λ n. 1 + n)) (product-total w bit-count x)
+    ∙ counted (as-tuple w x) (λ ss. mapO of-bits (mapM as-bit ss)) (total bit-count) (λ n. 0) (λ n. 1) (λ ss. bits-are ss ∙ sym (map-map (mapM as-bit ss) of-bits (λ n. 0))) (λ n. refl)
+
+either-count : (a b : Ty) → Counts (either a b) (sum-count (records-of a) (records-of b))
+unfolding reconstruct encode
+either-count a b unit = refl
+either-count a b (left x) = lifted (reconstruct a x) inl (λ v. length (encode a v)) (λ v. length (encode (either a b) v)) (λ v. omega arith)
+either-count a b (right x) = lifted (reconstruct b x) inr (λ v. length (encode b v)) (λ v. length (encode (either a b) v)) (λ v. omega arith)
+either-count a b (pair x y) = refl
+
+option-count : (a : Ty) → Counts (option a) (sum-count unit-count (records-of a))
+unfolding reconstruct encode
+option-count a unit = refl
+option-count a (left unit) = refl
+option-count a (left (left x)) = refl
+option-count a (left (right x)) = refl
+option-count a (left (pair x y)) = refl
+option-count a (right x) = lifted (reconstruct a x) some (λ v. length (encode a v)) (λ v. length (encode (option a) v)) (λ v. omega arith)
+option-count a (pair x y) = refl
+
+tuple-count : (ts : Tys) → Counts (tuple ts) (fold pair-count any-count (btree (size ts)) (all-of ts))
+unfolding reconstruct encode
+tuple-count ts x =
+    ap (mapO (λ n. 1 + n)) (product-all ts x)
+    ∙ map-map (bindO (as-tuple (size ts) x) (λ ss. reconstructs ts ss)) (λ v. length (encodes ts v)) (λ n. 1 + n)
+    ∙ map-ext (bindO (as-tuple (size ts) x) (λ ss. reconstructs ts ss)) _ (λ v. length (encode (tuple ts) v)) (λ v. omega arith)
+
+array-count : (a : Ty) (n : ℕ) → Counts (array a n) (fold pair-count any-count (btree n) (replicate n (records-of a)))
+unfolding reconstruct encode
+array-count a n x =
+    ap (mapO (λ n. 1 + n)) (product-total n (records-of a) x)
+    ∙ counted (as-tuple n x) (mapM (λ y. reconstruct a y)) (total (records-of a)) (λ vs. length (flatMap (λ v. encode a v) vs)) (λ v. length (encode (array a n) v)) (total-map (λ y. reconstruct a y) (λ v. encode a v)) (λ v. omega arith)
+
+listed-count : (a : Ty) (e : ℕ) → Counts (list a e) (list-count e (records-of a))
+unfolding reconstruct encode
+listed-count a e x =
+    ap (mapO (λ n. 1 + n)) (list-total e (records-of a) x)
+    ∙ counted (combine e x) (mapM (λ y. reconstruct a y)) (total (records-of a)) (λ vs. length (flatMap (λ v. encode a v) vs)) (λ v. length (encode (list a e) v)) (total-map (λ y. reconstruct a y) (λ v. encode a v)) (λ v. omega arith)
+
+choose-count : (vs : Variants) (i : ℕ) (x : SValue) → getD (cases-of vs) i no-count x ≡ mapO (λ c. length (encode-choice vs c)) (choose vs i x)
+unfolding reconstruct encode
+choose-count (last ts) zero x = refl
+choose-count (last ts) (suc i) x = refl
+choose-count (more ts vs) zero x = sym (map-map (bindO (as-tuple (size ts) x) (λ ss. reconstructs ts ss)) inl (λ c. length (encode-choice (more ts vs) c)))
+choose-count (more ts vs) (suc i) x = choose-count vs i x ∙ sym (map-map (choose vs i x) inr (λ c. length (encode-choice (more ts vs) c)))
+
+count-some : (vs : Variants) → 1 ≤ count vs
+count-some (last ts) = omega arith
+count-some (more ts vs) = omega arith
+
+enum-count : (vs : Variants) → Counts (enum vs) (fold sum-count no-count (btree (count vs)) (cases-of vs))
+unfolding reconstruct encode
+enum-count vs x =
+    ap (mapO (λ n. 1 + n)) (sum-leaf (btree (count vs)) (cases-of vs) x (length-cases vs ∙ sym (btree-leaves (count vs) (count-some vs))))
+    ∙ counted (as-enum-leaf (btree (count vs)) x) (λ y. choose vs (y .0) (y .1)) (λ y. getD (cases-of vs) (y .0) no-count (y .1)) (λ c. length (encode-choice vs c)) (λ c. length (encode (enum vs) c)) (λ y. choose-count vs (y .0) (y .1)) (λ c. omega arith)
+
+-- THE LAW
+
+never-count : (x : SValue) → none ≡ records-of never x
+unfolding reconstruct
+never-count x = refl
+
+module _ (s : List ℕ) where
+  lists-same : (e : ℕ) {r : Reader} {c : Counter} → Same s r c → Same s (lists s e r) (list-count e c)
+  unfolding lists blocks
+  lists-same zero h = sums-same s (units-same s) (products-same s 1 _ _ (sames-replicate s 1 h))
+  lists-same (suc e) h = pairs-same s (sums-same s (units-same s) (products-same s _ _ _ (sames-replicate s (2 ^ suc e) h))) (lists-same e h)
+
+  mutual
+    unfolding reads
+
+    pub reads-same : (t : Ty) → Same s (reads s t) (records-of t)
+    reads-same never = same-as s (fails-same s) never-count
+    reads-same bool = one-same s (sums-same s (units-same s) (units-same s)) bool-count
+    reads-same (uint w) = one-same s (products-same s w _ _ (sames-replicate s w (sums-same s (units-same s) (units-same s)))) (uint-count w)
+    reads-same (either a b) = one-same s (sums-same s (reads-same a) (reads-same b)) (either-count a b)
+    reads-same (option a) = one-same s (sums-same s (units-same s) (reads-same a)) (option-count a)
+    reads-same (tuple ts) = one-same s (products-same s (size ts) _ _ (readers-same ts)) (tuple-count ts)
+    reads-same (array a n) = one-same s (products-same s n _ _ (sames-replicate s n (reads-same a))) (array-count a n)
+    reads-same (list a e) = one-same s (lists-same e (reads-same a)) (listed-count a e)
+    reads-same (enum vs) = one-same s (choices-same s (count vs) _ _ (cases-same vs)) (enum-count vs)
+
+    readers-same : (ts : Tys) → Sames s (readers s ts) (all-of ts)
+    readers-same nil = tt
+    readers-same (cons t ts) = (reads-same t, readers-same ts)
+
+    cases-same : (vs : Variants) → Sames s (cases s vs) (cases-of vs)
+    cases-same (last ts) = (same-as s (products-same s (size ts) _ _ (readers-same ts)) (product-all ts), tt)
+    cases-same (more ts vs) = (same-as s (products-same s (size ts) _ _ (readers-same ts)) (product-all ts), cases-same vs)
+
+-- for a file that says the shape x, reading answers exactly if `reconstruct` gives a value: the whole file's end, and the value's records
+pub reads-reconstruct : (t : Ty) (s : List ℕ) (x : SValue) → shape-of s ≡ done x → reads s t 0 ≡ answer (length s) (records-of t x)
+reads-reconstruct t s x h =
+    let e : s ≡ shape-records x = shape-written-read s x h .0 in
+    reads-same s t .told 0 x (record { rest = []; here = e ∙ sym (append-nil (shape-records x)) })
+    ∙ ap (λ n. answer n (records-of t x)) (zero-add (length (shape-records x)) ∙ ap length (sym e))
+
+-- the records of a value, if there is one
+abbrev pub known : (t : Ty) → Option (Value t) → Records
+known t none = records.Not
+known t (some v) = records.Of (length (encode t v))
+
+-- for a file that says the shape x, the answer is of the value that `reconstruct` gives, and none exactly if it gives none
+pub value-records-reconstruct : (t : Ty) (s : List ℕ) (x : SValue) → shape-of s ≡ done x → value-records t s ≡ known t (reconstruct t x)
+unfolding value-records
+value-records-reconstruct t s x h = ap records-in (reads-reconstruct t s x h) ∙ go (reconstruct t x)
+  where
+    go : (o : Option (Value t)) → records-in (answer (length s) (mapO (λ v. length (encode t v)) o)) ≡ known t o
+    go none = refl
+    go (some v) = refl
+
+-- a value file has 36 bytes for each record
+pub value-file-length : (t : Ty) (v : Value t) → length (value-file t v) ≡ length (encode t v) * 36
+unfolding value-file
+value-file-length t v = length-written 36 value-bytes length-value-bytes (encode t v)

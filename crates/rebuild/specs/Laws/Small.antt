@@ -1,0 +1,238 @@
+-- How many records a reading can give: each has a place of the shape and a level of the type of its own, so for a type of d levels
+-- there are at most d + 1 for each record of the shape that was read.
+use mathlib.Core.Path.{_≡_, refl}
+use mathlib.Core.List.{List, [], _∷_}
+use Prim.Native.Nat.{ℕ, zero, suc, _+_, _-_, _*_, _≤_, _<_, _^_}
+use native.Mathlib.Nat.{suc-mul, mul-le-mul-left}
+use native.Mathlib.Omega.{arith}
+use lib.ListN.{length, getD, take, drop, replicate}
+use Rattle.array.specs.declared.TreeEnd.{TreeEnd}
+use Rattle.array.specs.declared.TreeEnd.the-variants.{At, Nothing}
+use Rattle.array.specs.Ends.{tree-end-of}
+use Rattle.array.specs.Laws.{tree-end-at}
+use Rattle.model.specs.Balanced.{BTree, leaf, fork, leaves, btree, fold}
+use Rattle.model.specs.Types.{Ty, Tys, size}
+use Rattle.types.specs.declared.Head.{Head}
+use Rattle.types.specs.declared.Head.the-variants.{Missing, Faulty, Never, Boolean, UInt, Either, Opt, Tuple, Array, Listed, Payload}
+use Rattle.types.specs.declared.Head.the-variants as head
+use Rattle.types.specs.declared.Rec.{Rec}
+use Rattle.types.specs.declared.Rec.the-variants.{Gone, Wrong, Types, Enum, Variant}
+use Rattle.types.specs.declared.Walk.{Walk}
+use Rattle.types.specs.Record.{headAt, recAt}
+use Rattle.types.specs.Trees.{endOf, kids, node, payload, tree, treev}
+use Rattle.types.specs.Trees as trees
+use Rattle.rebuild.specs.declared.Read.{Read}
+use Rattle.rebuild.specs.declared.Read.the-variants.{Of, Not}
+use Rattle.rebuild.specs.Reads.{Reader, plus, next, closed, side, both, passed, units, sums, pairs, passes, fails, products, choices, bits, blocks, lists, one, reads, readers, cases}
+
+-- what was read from p on ends within the file, with at most L records of the value for each of the shape
+pub record Within (z L p e n : ℕ) : Type 0 where
+  pub after : p < e
+  pub inside : e ≤ z
+  pub few : n + L * p ≤ L * e
+
+abbrev pub Fits : ℕ → ℕ → ℕ → Read → Type 0
+Fits z L p (Of e n) = Within z L p e n
+Fits z L p Not = Unit
+
+pub record Small (s : List ℕ) (L : ℕ) (r : Reader) : Type 0 where
+  pub fits : (p : ℕ) → Fits (length s) L p (r p)
+
+-- NUMBERS
+
+from-next : (z L p e n : ℕ) → Within z L (p + 1) e n → Within z L p e n
+from-next z L p e n h = let a = h .after in let b = h .few in let m : L * p ≤ L * (p + 1) = mul-le-mul-left L (omega arith) in record { after = omega arith; inside = h .inside; few = more (L * p) (L * (p + 1)) (L * e) n m b }
+  where
+    more : (a b c n : ℕ) → a ≤ b → n + b ≤ c → n + a ≤ c
+    more a b c n e h = omega arith
+
+then-next : (z L p m e n k : ℕ) → Within z L p m n → Within z L m e k → Within z L p e (n + k)
+then-next z L p m e n k h g = let a = h .after in let b = g .after in record { after = omega arith; inside = g .inside; few = more (L * p) (L * m) (L * e) n k (h .few) (g .few) }
+  where
+    more : (a b c n k : ℕ) → n + a ≤ b → k + b ≤ c → n + k + a ≤ c
+    more a b c n k h g = omega arith
+
+none-read : (z L p e : ℕ) → p < e → e ≤ z → Within z L p e 0
+none-read z L p e h g = let m : L * p ≤ L * e = mul-le-mul-left L (omega arith) in record { after = h; inside = g; few = omega arith }
+
+deeper : (z L p e n : ℕ) → Within z L p e n → Within z (suc L) p e (1 + n)
+deeper z L p e n h = let a = h .after in record { after = a; inside = h .inside; few = more (L * p) (L * e) (suc L * p) (suc L * e) n (suc-mul L p) (suc-mul L e) (h .few) a }
+  where
+    more : (a b c d n : ℕ) → c ≡ a + p → d ≡ b + e → n + a ≤ b → p < e → 1 + n + c ≤ d
+    more a b c d n f g h l = omega arith
+
+wider : (z L p e n : ℕ) → Within z L p e n → Within z (suc L) p e n
+wider z L p e n h = let a = h .after in record { after = a; inside = h .inside; few = more (L * p) (L * e) (suc L * p) (suc L * e) n (suc-mul L p) (suc-mul L e) (h .few) a }
+  where
+    more : (a b c d n : ℕ) → c ≡ a + p → d ≡ b + e → n + a ≤ b → p < e → n + c ≤ d
+    more a b c d n f g h l = omega arith
+
+pub in-file : (s : List ℕ) (p b : ℕ) → getD s p 4 ≡ b → b < 4 → p + 1 ≤ length s
+in-file [] p b e l = absurd (omega arith)
+in-file (x ∷ s) zero b e l = omega arith
+in-file (x ∷ s) (suc p) b e l = omega (arith, in-file s p b e l)
+
+from-next-fits : (z L p : ℕ) (r : Read) → Fits z L (p + 1) r → Fits z L p r
+from-next-fits z L p (Of e n) h = from-next z L p e n h
+from-next-fits z L p Not h = tt
+
+plus-fits : (z L p m n : ℕ) (r : Read) → Within z L p m n → Fits z L m r → Fits z L p (plus n r)
+plus-fits z L p m n (Of e k) h g = then-next z L p m e n k h g
+plus-fits z L p m n Not h g = tt
+
+next-fits : (z L p : ℕ) (o : Read) (r : Reader) → Fits z L p o → ((m : ℕ) → Fits z L m (r m)) → Fits z L p (next o r)
+next-fits z L p (Of m n) r h g = plus-fits z L p m n (r m) h (g m)
+next-fits z L p Not r h g = tt
+
+one-fits : (z L p : ℕ) (r : Read) → Fits z L p r → Fits z (suc L) p (plus 1 r)
+one-fits z L p (Of e n) h = deeper z L p e n h
+one-fits z L p Not h = tt
+
+wider-fits : (z L p : ℕ) (r : Read) → Fits z L p r → Fits z (suc L) p r
+wider-fits z L p (Of e n) h = wider z L p e n h
+wider-fits z L p Not h = tt
+
+-- READERS
+
+module _ (s : List ℕ) (L : ℕ) where
+  pub units-small : Small s L (units s)
+  unfolding units
+  units-small = record { fits = λ p. go p (getD s p 4) refl }
+    where
+      go : (p b : ℕ) → getD s p 4 ≡ b → Fits (length s) L p (closed b (p + 1))
+      go p zero e = none-read (length s) L p (p + 1) (omega arith) (in-file s p 0 e (omega arith))
+      go p (suc b) e = tt
+
+  pub sums-small : {l r : Reader} → Small s L l → Small s L r → Small s L (sums s l r)
+  unfolding sums
+  sums-small {l} {r} f g = record { fits = λ p. go p (getD s p 4) }
+    where
+      go : (p b : ℕ) → Fits (length s) L p (side b l r (p + 1))
+      go p zero = tt
+      go p (suc zero) = from-next-fits (length s) L p (l (p + 1)) (f .fits (p + 1))
+      go p (suc (suc zero)) = from-next-fits (length s) L p (r (p + 1)) (g .fits (p + 1))
+      go p (suc (suc (suc b))) = tt
+
+  pub pairs-small : {l r : Reader} → Small s L l → Small s L r → Small s L (pairs s l r)
+  unfolding pairs
+  pairs-small {l} {r} f g = record { fits = λ p. go p (getD s p 4) }
+    where
+      go : (p b : ℕ) → Fits (length s) L p (both b l r (p + 1))
+      go p zero = tt
+      go p (suc zero) = tt
+      go p (suc (suc zero)) = tt
+      go p (suc (suc (suc zero))) = next-fits (length s) L p (l (p + 1)) r (from-next-fits (length s) L p (l (p + 1)) (f .fits (p + 1))) (λ m. g .fits m)
+      go p (suc (suc (suc (suc b)))) = tt
+
+  pub passes-small : Small s L (passes s)
+  unfolding passes
+  passes-small = record { fits = λ p. go p (tree-end-of s p) refl }
+    where
+      go : (p : ℕ) (o : TreeEnd) → tree-end-of s p ≡ o → Fits (length s) L p (passed o)
+      go p (At e) h = let t = tree-end-at (length (drop p s)) s p e (omega arith) h in none-read (length s) L p e (t .after) (t .inside)
+      go p Nothing h = tt
+
+  pub fails-small : Small s L (fails s)
+  fails-small = record { fits = λ p. tt }
+
+  abbrev pub Smalls : List Reader → Type 0
+  Smalls [] = Unit
+  Smalls (r ∷ rs) = Small s L r × Smalls rs
+
+  smalls-take : (n : ℕ) (rs : List Reader) → Smalls rs → Smalls (take n rs)
+  smalls-take zero rs h = tt
+  smalls-take (suc n) [] h = tt
+  smalls-take (suc n) (r ∷ rs) h = (h .0, smalls-take n rs (h .1))
+
+  smalls-drop : (n : ℕ) (rs : List Reader) → Smalls rs → Smalls (drop n rs)
+  smalls-drop zero rs h = h
+  smalls-drop (suc n) [] h = tt
+  smalls-drop (suc n) (r ∷ rs) h = smalls-drop n rs (h .1)
+
+  smalls-replicate : (n : ℕ) {r : Reader} → Small s L r → Smalls (replicate n r)
+  smalls-replicate zero h = tt
+  smalls-replicate (suc n) h = (h, smalls-replicate n h)
+
+  module _ (f : Reader → Reader → Reader) (d : Reader) (k : (l r : Reader) → Small s L l → Small s L r → Small s L (f l r)) (z : Small s L d) where
+    fold-small : (t : BTree) (rs : List Reader) → Smalls rs → Small s L (fold f d t rs)
+    unfolding fold
+    fold-small leaf [] h = z
+    fold-small leaf (r ∷ rs) h = h .0
+    fold-small (fork l r) rs h = k _ _ (fold-small l _ (smalls-take (leaves l) rs h)) (fold-small r _ (smalls-drop (leaves l) rs h))
+
+  pub products-small : (n : ℕ) (rs : List Reader) → Smalls rs → Small s L (products s n rs)
+  unfolding products
+  products-small n = fold-small (pairs s) (passes s) (λ l r f g. pairs-small f g) passes-small (btree n)
+
+  pub choices-small : (n : ℕ) (rs : List Reader) → Smalls rs → Small s L (choices s n rs)
+  unfolding choices
+  choices-small n = fold-small (sums s) (fails s) (λ l r f g. sums-small f g) fails-small (btree n)
+
+  pub bits-small : Small s L (bits s)
+  bits-small = sums-small units-small units-small
+
+  pub blocks-small : (n : ℕ) {r : Reader} → Small s L r → Small s L (blocks s n r)
+  unfolding blocks
+  blocks-small n {r} h = sums-small units-small (products-small n (replicate n r) (smalls-replicate n h))
+
+  pub lists-small : (e : ℕ) {r : Reader} → Small s L r → Small s L (lists s e r)
+  unfolding lists
+  lists-small zero h = blocks-small 1 h
+  lists-small (suc e) h = pairs-small (blocks-small (2 ^ suc e) h) (lists-small e h)
+
+  pub one-small : {r : Reader} → Small s L r → Small s (suc L) (one s r)
+  one-small {r} h = record { fits = λ p. one-fits (length s) L p (r p) (h .fits p) }
+
+  pub wider-small : {r : Reader} → Small s L r → Small s (suc L) r
+  wider-small {r} h = record { fits = λ p. wider-fits (length s) L p (r p) (h .fits p) }
+
+-- TYPES
+
+module _ (s ty : List ℕ) where
+  kids-small : (L : ℕ) (g : ℕ → Ty) (f : ℕ → Walk) → ((p : ℕ) → Small s L (reads s (g p))) → (n p : ℕ) → Smalls s L (readers s (kids g f n p))
+  unfolding kids reads
+  kids-small L g f h zero p = tt
+  kids-small L g f h (suc n) p = (h p, kids-small L g f h n (endOf (f p)))
+
+  -- a payload
+  abbrev held : Tys → Reader
+  held ts = products s (size ts) (readers s ts)
+
+  cases-small : (L : ℕ) (g : ℕ → Tys) (f : ℕ → Walk) → ((p : ℕ) → Small s L (held (g p))) → (n p : ℕ) → Smalls s L (cases s (trees.cases g f n p))
+  unfolding trees.cases reads
+  cases-small L g f h zero p = (h p, tt)
+  cases-small L g f h (suc n) p = (h p, cases-small L g f h n (endOf (f p)))
+
+  node-small : (L : ℕ) (x : Head) (g : ℕ → Ty) (f : ℕ → Walk) (h : ℕ → Tys) (k : ℕ → Walk) (p : ℕ) → ((q : ℕ) → Small s L (reads s (g q))) → ((q : ℕ) → Small s L (held (h q))) → Small s (suc L) (reads s (node x g f h k p))
+  unfolding node reads
+  node-small L Missing g f h k p a b = one-small s L (products-small s L 0 [] tt)
+  node-small L Faulty g f h k p a b = one-small s L (products-small s L 0 [] tt)
+  node-small L Never g f h k p a b = fails-small s (suc L)
+  node-small L Boolean g f h k p a b = one-small s L (bits-small s L)
+  node-small L (UInt w) g f h k p a b = one-small s L (products-small s L (w .0) _ (smalls-replicate s L (w .0) (bits-small s L)))
+  node-small L Either g f h k p a b = one-small s L (sums-small s L (a p) (a (endOf (f p))))
+  node-small L Opt g f h k p a b = one-small s L (sums-small s L (units-small s L) (a p))
+  node-small L (Tuple n) g f h k p a b = one-small s L (products-small s L _ _ (kids-small L g f a n p))
+  node-small L (Array n) g f h k p a b = one-small s L (products-small s L n _ (smalls-replicate s L n (a p)))
+  node-small L (Listed c) g f h k p a b = one-small s L (lists-small s L _ (a p))
+  node-small L (head.Variants n) g f h k p a b = one-small s L (choices-small s L _ _ (cases-small L h k b (n - 1) p))
+  node-small L (Payload n) g f h k p a b = one-small s L (products-small s L 0 [] tt)
+
+  payload-small : (L : ℕ) (x : Rec) (g : ℕ → Ty) (f : ℕ → Walk) (p : ℕ) → ((q : ℕ) → Small s L (reads s (g q))) → Small s L (held (payload x g f p))
+  unfolding payload reads
+  payload-small L Gone g f p a = products-small s L 0 [] tt
+  payload-small L Wrong g f p a = products-small s L 0 [] tt
+  payload-small L (Types n) g f p a = products-small s L 0 [] tt
+  payload-small L (Enum n) g f p a = products-small s L 0 [] tt
+  payload-small L (Variant n) g f p a = products-small s L _ _ (kids-small L g f a n p)
+
+  mutual
+    unfolding tree reads
+
+    pub tree-small : (d p : ℕ) → Small s (suc d) (reads s (tree d ty p))
+    tree-small zero p = one-small s 0 (products-small s 0 0 [] tt)
+    tree-small (suc d) p = node-small (suc d) (headAt ty p) _ _ _ _ (p + 1) (λ q. tree-small d q) (λ q. treev-small d q)
+
+    pub treev-small : (d p : ℕ) → Small s (suc d) (held (treev d ty p))
+    treev-small zero p = products-small s 1 0 [] tt
+    treev-small (suc d) p = wider-small s (suc d) (payload-small (suc d) (recAt ty p) _ _ (p + 1) (λ q. tree-small d q))

@@ -1,0 +1,133 @@
+-- What a reader answers, by the record that stands at a place: in the form in which the code's needs ask it.
+use mathlib.Core.Path.{_≡_, refl, sym, ap, _∙_}
+use mathlib.Core.List.{List}
+use Prim.Native.Nat.{ℕ, zero, suc, _+_, _-_, _^_, _≤_, _<_}
+use native.Mathlib.Numerals.{sub-one}
+use native.Mathlib.Omega.{arith}
+use mir.Syntax.{w64}
+use mir.Val.{Fits}
+use lib.ListN.{length, getD}
+use Rattle.array.specs.declared.TreeEnd.{TreeEnd}
+use Rattle.array.specs.declared.TreeEnd.the-variants.{At, Nothing}
+use Rattle.array.specs.Ends.{tree-end-of}
+use Rattle.rebuild.specs.declared.Parts.{Parts}
+use Rattle.rebuild.specs.declared.Parts.the-variants.{Bits, Copies, Types}
+use Rattle.rebuild.specs.declared.Read.{Read}
+use Rattle.rebuild.specs.declared.Read.the-variants.{Of, Not}
+use Rattle.rebuild.specs.Reads.{Reader, plus, next, closed, side, both, passed, units, sums, pairs, passes}
+use Rattle.rebuild.specs.Forms.{most-records, count-of, hops, Hops, skip, Hopped}
+use Rattle.rebuild.specs.Laws.Small.{in-file}
+
+module _ (n : ℕ) (r : Read) (e k : ℕ) (h : r ≡ Of e k) where
+  pub plus-of : Of e (n + k) ≡ plus n r
+  plus-of = sym (ap (plus n) h)
+
+  pub plus-fits : n ≤ most-records → count-of r ≤ most-records → Fits w64 (n + k)
+  plus-fits l m = let c : count-of r ≡ k = ap count-of h in omega arith
+
+pub plus-not : (n : ℕ) (r : Read) → r ≡ Not → Not ≡ plus n r
+plus-not n r h = sym (ap (plus n) h)
+
+module _ (s : List ℕ) (p : ℕ) where
+  pub any-at : (o : TreeEnd) (e : ℕ) → o ≡ tree-end-of s p → o ≡ At e → Of e 0 ≡ passes s p
+  unfolding passes
+  any-at o e h k = ap passed (sym k ∙ h)
+
+  pub any-nothing : (o : TreeEnd) → o ≡ tree-end-of s p → o ≡ Nothing → Not ≡ passes s p
+  unfolding passes
+  any-nothing o h k = ap passed (sym k ∙ h)
+
+  module _ (b : ℕ) (h : b ≡ getD s p 4) (l : length s < 2 ^ 64) where
+    pub unit-fits : b ≡ 0 → Fits w64 (p + 1)
+    unit-fits e = omega (arith, in-file s p b (sym h) (omega arith))
+
+    pub left-fits : b ≡ 1 → Fits w64 (p + 1)
+    left-fits e = omega (arith, in-file s p b (sym h) (omega arith))
+
+    pub right-fits : b ≡ 2 → Fits w64 (p + 1)
+    right-fits e = omega (arith, in-file s p b (sym h) (omega arith))
+
+    pub pair-fits : b ≡ 3 → Fits w64 (p + 1)
+    pair-fits e = omega (arith, in-file s p b (sym h) (omega arith))
+
+  module _ (b : ℕ) (h : b ≡ getD s p 4) where
+    pub unit-yes : b ≡ 0 → Of (p + 1) 0 ≡ units s p
+    unfolding units
+    unit-yes e = ap (λ x. closed x (p + 1)) (sym e ∙ h)
+
+    pub unit-no : (b ≡ 0 → ⊥) → Not ≡ units s p
+    unfolding units
+    unit-no e = go b e ∙ ap (λ x. closed x (p + 1)) h
+      where
+        go : (x : ℕ) → (x ≡ 0 → ⊥) → Not ≡ closed x (p + 1)
+        go zero f = absurd (f refl)
+        go (suc x) f = refl
+
+    pub sum-left : (l r : Reader) (x : Read) → b ≡ 1 → x ≡ l (p + 1) → x ≡ sums s l r p
+    unfolding sums
+    sum-left l r x e f = f ∙ ap (λ y. side y l r (p + 1)) (sym e ∙ h)
+
+    pub sum-right : (l r : Reader) (x : Read) → b ≡ 2 → x ≡ r (p + 1) → x ≡ sums s l r p
+    unfolding sums
+    sum-right l r x e f = f ∙ ap (λ y. side y l r (p + 1)) (sym e ∙ h)
+
+    pub sum-no : (l r : Reader) → (b ≡ 1 → ⊥) → (b ≡ 2 → ⊥) → Not ≡ sums s l r p
+    unfolding sums
+    sum-no l r e f = go b e f ∙ ap (λ y. side y l r (p + 1)) h
+      where
+        go : (x : ℕ) → (x ≡ 1 → ⊥) → (x ≡ 2 → ⊥) → Not ≡ side x l r (p + 1)
+        go zero f g = refl
+        go (suc zero) f g = absurd (f refl)
+        go (suc (suc zero)) f g = absurd (g refl)
+        go (suc (suc (suc x))) f g = refl
+
+    pub pair-no : (l r : Reader) → (b ≡ 3 → ⊥) → Not ≡ pairs s l r p
+    unfolding pairs
+    pair-no l r e = go b e ∙ ap (λ y. both y l r (p + 1)) h
+      where
+        go : (x : ℕ) → (x ≡ 3 → ⊥) → Not ≡ both x l r (p + 1)
+        go zero f = refl
+        go (suc zero) f = refl
+        go (suc (suc zero)) f = refl
+        go (suc (suc (suc zero))) f = absurd (f refl)
+        go (suc (suc (suc (suc x)))) f = refl
+
+    pub pair-stop : (l r : Reader) (x : Read) → b ≡ 3 → x ≡ l (p + 1) → x ≡ Not → Not ≡ pairs s l r p
+    unfolding pairs
+    pair-stop l r x e f g = ap (λ y. next y r) (sym g ∙ f) ∙ ap (λ y. both y l r (p + 1)) (sym e ∙ h)
+
+    pub pair-on : (l r : Reader) (x y z : Read) (q n : ℕ) → b ≡ 3 → x ≡ l (p + 1) → x ≡ Of q n → y ≡ r q → z ≡ plus n y → z ≡ pairs s l r p
+    unfolding pairs
+    pair-on l r x y z q n e f g i j = j ∙ ap (plus n) i ∙ ap (λ o. next o r) (sym g ∙ f) ∙ ap (λ o. both o l r (p + 1)) (sym e ∙ h)
+
+-- PLACES IN THE TYPE FILE
+
+pub hops-next : (E : List ℕ) (n p : ℕ) → 0 < n → hops E n p ≡ hops E (n - 1) (getD E p 0)
+unfolding hops
+hops-next E zero p h = absurd (omega arith)
+hops-next E (suc n) p h = rw sub-one refl
+
+pub hops-none : (E : List ℕ) (n p : ℕ) → n ≡ 0 → hops E n p ≡ p
+unfolding hops
+hops-none E n p h = ap (λ i. hops E i p) h
+
+pub hops-first : (E : List ℕ) (n p : ℕ) → 0 < n → Hops E n p → p < length E
+unfolding hops
+hops-first E n p h g = g .each 0 h
+
+pub hops-rest : (E : List ℕ) (n p : ℕ) → 0 < n → Hops E n p → Hops E (n - 1) (getD E p 0)
+unfolding hops
+hops-rest E n p h g = record { each = λ i l. g .each (suc i) (omega arith) }
+
+module _ (k : Parts) (E : List ℕ) (n p : ℕ) where
+  pub types-hopped : Hopped k E n p → k ≡ Types → Hops E n p
+  types-hopped h e = rw e at h
+
+  pub skip-bits : k ≡ Bits → p ≡ skip k E n p
+  skip-bits e = rw e refl
+
+  pub skip-copies : k ≡ Copies → p ≡ skip k E n p
+  skip-copies e = rw e refl
+
+  pub skip-types : (q : ℕ) → k ≡ Types → q ≡ hops E n p → q ≡ skip k E n p
+  skip-types q e h = rw e h

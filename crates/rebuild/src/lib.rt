@@ -1,0 +1,345 @@
+// The first pass of `reconstruct`, after value.rs: a type and a shape are walked together, and the records of the value file are counted.
+use array::TreeEnd;
+use array::btree_split_index;
+use array::tree_end;
+use num::Bound;
+use num::NonZeroPow2Usize;
+use types::Head;
+use types::head_at;
+ghost use mathlib.Core.Path.{_≡_};
+ghost use mathlib.Core.Bool.{false};
+ghost use Prim.Native.Nat.{_≤_};
+ghost use lib.ListN.{getD, length};
+ghost use Rattle.model.specs.Numbers.{most-shape-records};
+ghost use Rattle.types.specs.Heads.{FairBound};
+ghost use Rattle.types.specs.Trees.{typeOf};
+ghost use Rattle.types.specs.Steps.{Given};
+ghost use Rattle.rebuild.specs.declared.Parts.the-variants.{Types};
+ghost use Rattle.rebuild.specs.Reads.{plus, units, passes, bits, value-records};
+ghost use Rattle.structural.specs.Forms.{most-parts, Stands};
+ghost use Rattle.rebuild.specs.Forms.{most-records, Limits, count-of, form-of, hops, Hops, skip, Hopped, GivenPart, GivenParts, standing, part, balanced, chosen, block-of, listed};
+
+// The records of a shape, and a byte that is none.
+const UNIT: u8 = 0;
+
+const LEFT: u8 = 1;
+
+const RIGHT: u8 = 2;
+
+const PAIR: u8 = 3;
+
+const NO_RECORD: u8 = 4;
+
+// The levels that a type may have.
+const LEVELS: usize = 32;
+
+// What reading gives: the place after the shape that was read and the number of value records, or that it cannot be read.
+enum Read {
+    Of(usize, usize),
+    Not,
+}
+
+// How many records a value file has, or that there is none.
+pub enum Records {
+    Of(usize),
+    Not,
+}
+
+// What the parts of a balanced product are, and where they stand in the type file.
+enum Parts {
+    // the bits of an integer, all of them told by its one record
+    Bits,
+    // the parts of an array, all of them told by the one type below it
+    Copies,
+    // the types of a tuple or a Variant, one after the other
+    Types,
+}
+
+// How a record is read: not at all, as a product of so many parts, as a sum, as a list, or as a Variant's payload, which is no record of the value.
+enum Form {
+    Refused,
+    Product(Parts, usize),
+    Sum(usize),
+    List(NonZeroPow2Usize),
+    Payload(usize),
+}
+
+// The form of what a record says; the empty tuple where there is no type.
+fn form_of(h: Head) -> Form
+    ensures { λ r. ⌜ r ≡ form-of h ⌝ }
+{
+    match h {
+        Head::Missing => Form::Product(Parts::Types, 0),
+        Head::Faulty => Form::Product(Parts::Types, 0),
+        Head::Never => Form::Refused,
+        Head::Boolean => Form::Product(Parts::Bits, 1),
+        Head::UInt(w) => Form::Product(Parts::Bits, w.get()),
+        Head::Either => Form::Sum(2),
+        Head::Opt => Form::List(NonZeroPow2Usize::TWO),
+        Head::Tuple(n) => Form::Product(Parts::Types, n),
+        Head::Array(n) => Form::Product(Parts::Copies, n),
+        Head::Listed(b) => Form::List(b),
+        Head::Variants(n) => Form::Sum(n),
+        Head::Payload(n) => Form::Payload(n),
+    }
+}
+
+// The record at place p of a shape, or no record where the shape has ended.
+fn record_at(shape: &[u8], p: usize) -> u8
+    ensures { λ r. ⌜ r ≡ getD (now (shape .entry)) p 4 ⌝ }
+{
+    if shape.len() <= p {
+        return NO_RECORD;
+    }
+    shape[p]
+}
+
+// What was read, with n records more.
+fn plus(n: usize, r: Read) -> Read
+    requires { ⌜ (n ≤ most-records) × (count-of r ≤ most-records) ⌝ }
+    ensures { λ x. ⌜ x ≡ plus n r ⌝ }
+{
+    match r {
+        Read::Not => Read::Not,
+        Read::Of(next, count) => Read::Of(next, n + count),
+    }
+}
+
+// Passes over any tree at place p.
+fn read_any(shape: &[u8], p: usize) -> Read
+    ensures { λ r. ⌜ r ≡ passes (now (shape .entry)) p ⌝ }
+{
+    match tree_end(shape, p) {
+        TreeEnd::At(next) => Read::Of(next, 0),
+        TreeEnd::Nothing => Read::Not,
+    }
+}
+
+// Reads a unit at place p.
+fn read_unit(shape: &[u8], p: usize) -> Read
+    ensures { λ r. ⌜ r ≡ units (now (shape .entry)) p ⌝ }
+{
+    if record_at(shape, p) == UNIT {
+        return Read::Of(p + 1, 0);
+    }
+    Read::Not
+}
+
+// Reads a bit at place p, a left or a right with a unit.
+fn read_bit(shape: &[u8], p: usize) -> Read
+    ensures { λ r. ⌜ r ≡ bits (now (shape .entry)) p ⌝ }
+{
+    let side = record_at(shape, p);
+    if side == LEFT {
+        return read_unit(shape, p + 1);
+    }
+    if side == RIGHT {
+        return read_unit(shape, p + 1);
+    }
+    Read::Not
+}
+
+// The record that stands n records behind record `at`, each with all below it.
+fn hop(ends: &[usize], at: usize, n: usize) -> usize
+    requires { ⌜ Hops (now ends) n at ⌝ }
+    ensures { λ r. ⌜ r ≡ hops (now (ends .entry)) n at ⌝ }
+{
+    let mut next = at;
+    let mut left = n;
+    while 0 < left {
+        next = ends[next];
+        left -= 1;
+    }
+    next
+}
+
+// Reads what stands at record `at`, a type or a Variant's payload, with `level` levels from there on.
+fn read_record(ty: &[u8], ends: &[usize], at: usize, level: usize, shape: &[u8], p: usize) -> Read
+    requires { ⌜ Stands level (now ty) (now ends) at ⌝ }
+    requires { ⌜ Limits (now shape) level ⌝ }
+    ensures { λ r. ⌜ r ≡ standing (now (shape .entry)) level (now (ty .entry)) at p ⌝ }
+{
+    match form_of(head_at(ty, at)) {
+        Form::Refused => Read::Not,
+        Form::Product(parts, n) => {
+            plus(
+                1,
+                read_product(ty, ends, at + 1, level - 1, n, parts, shape, p),
+            )
+        }
+        Form::Sum(n) => plus(1, read_sum(ty, ends, at + 1, level - 1, n, shape, p)),
+        Form::List(bound) => plus(1, read_list(ty, ends, at + 1, level - 1, bound, shape, p)),
+        Form::Payload(n) => { read_product(ty, ends, at + 1, level - 1, n, Parts::Types, shape, p) }
+    }
+}
+
+// Reads the part at record `at`.
+fn read_part(
+    ty: &[u8],
+    ends: &[usize],
+    at: usize,
+    level: usize,
+    parts: Parts,
+    shape: &[u8],
+    p: usize,
+) -> Read
+    requires { ⌜ GivenPart parts level (now ty) (now ends) at ⌝ }
+    requires { ⌜ Limits (now shape) level ⌝ }
+    ensures { λ r. ⌜ r ≡ part (now (shape .entry)) parts level (now (ty .entry)) at p ⌝ }
+{
+    match parts {
+        Parts::Bits => read_bit(shape, p),
+        Parts::Copies => read_record(ty, ends, at, level, shape, p),
+        Parts::Types => read_record(ty, ends, at, level, shape, p),
+    }
+}
+
+// The record after n parts from record `at` on.
+fn after(ends: &[usize], at: usize, n: usize, parts: Parts) -> usize
+    requires { ⌜ Hopped parts (now ends) n at ⌝ }
+    ensures { λ r. ⌜ r ≡ skip parts (now (ends .entry)) n at ⌝ }
+{
+    match parts {
+        Parts::Bits => at,
+        Parts::Copies => at,
+        Parts::Types => hop(ends, at, n),
+    }
+}
+
+// Reads the balanced product of the n parts from record `at` on, any tree for none.
+fn read_product(
+    ty: &[u8],
+    ends: &[usize],
+    at: usize,
+    level: usize,
+    n: usize,
+    parts: Parts,
+    shape: &[u8],
+    p: usize,
+) -> Read
+    requires { ⌜ n ≤ most-parts ⌝ }
+    requires { ⌜ GivenParts parts level (now ty) (now ends) n at ⌝ }
+    requires { ⌜ Limits (now shape) level ⌝ }
+    ensures { λ r. ⌜ r ≡ balanced (now (shape .entry)) parts level (now (ty .entry)) (now (ends .entry)) n at p ⌝ }
+{
+    if n == 0 {
+        return read_any(shape, p);
+    }
+    if n == 1 {
+        return read_part(ty, ends, at, level, parts, shape, p);
+    }
+    if record_at(shape, p) != PAIR {
+        return Read::Not;
+    }
+    let few = btree_split_index(n);
+    let others = n - few;
+    match read_product(ty, ends, at, level, few, parts, shape, p + 1) {
+        Read::Not => Read::Not,
+        Read::Of(q, count) => {
+            let rest = after(ends, at, few, parts);
+            plus(
+                count,
+                read_product(ty, ends, rest, level, others, parts, shape, q),
+            )
+        }
+    }
+}
+
+// Reads the one of the n records from `at` on that the lefts and rights of a balanced sum lead to.
+fn read_sum(
+    ty: &[u8],
+    ends: &[usize],
+    at: usize,
+    level: usize,
+    n: usize,
+    shape: &[u8],
+    p: usize,
+) -> Read
+    requires { ⌜ (1 ≤ n) × (n ≤ most-parts) ⌝ }
+    requires { ⌜ GivenParts Types level (now ty) (now ends) n at ⌝ }
+    requires { ⌜ Limits (now shape) level ⌝ }
+    ensures { λ r. ⌜ r ≡ chosen (now (shape .entry)) level (now (ty .entry)) (now (ends .entry)) n at p ⌝ }
+{
+    if n == 1 {
+        return read_record(ty, ends, at, level, shape, p);
+    }
+    let few = btree_split_index(n);
+    let side = record_at(shape, p);
+    if side == LEFT {
+        return read_sum(ty, ends, at, level, few, shape, p + 1);
+    }
+    if side == RIGHT {
+        let others = n - few;
+        return read_sum(ty, ends, hop(ends, at, few), level, others, shape, p + 1);
+    }
+    Read::Not
+}
+
+// Reads a block of n of the type at record `at`: a left with a unit for none, a right with all of them.
+fn read_block(
+    ty: &[u8],
+    ends: &[usize],
+    at: usize,
+    level: usize,
+    n: usize,
+    shape: &[u8],
+    p: usize,
+) -> Read
+    requires { ⌜ n ≤ most-parts ⌝ }
+    requires { ⌜ Stands level (now ty) (now ends) at ⌝ }
+    requires { ⌜ Limits (now shape) level ⌝ }
+    ensures { λ r. ⌜ r ≡ block-of (now (shape .entry)) level (now (ty .entry)) n at p ⌝ }
+{
+    let side = record_at(shape, p);
+    if side == LEFT {
+        return read_unit(shape, p + 1);
+    }
+    if side == RIGHT {
+        return read_product(ty, ends, at, level, n, Parts::Copies, shape, p + 1);
+    }
+    Read::Not
+}
+
+// Reads a list with the bound: with the bound 2 a block of 1, else a pair of a block of half the bound and a list with that bound.
+fn read_list(
+    ty: &[u8],
+    ends: &[usize],
+    at: usize,
+    level: usize,
+    bound: NonZeroPow2Usize,
+    shape: &[u8],
+    p: usize,
+) -> Read
+    requires { ⌜ FairBound bound ⌝ }
+    requires { ⌜ Stands level (now ty) (now ends) at ⌝ }
+    requires { ⌜ Limits (now shape) level ⌝ }
+    ensures { λ r. ⌜ r ≡ listed (now (shape .entry)) level (now (ty .entry)) bound at p ⌝ }
+{
+    match bound.checked_div2() {
+        Bound::Not => read_block(ty, ends, at, level, 1, shape, p),
+        Bound::Of(half) => {
+            if record_at(shape, p) != PAIR {
+                return Read::Not;
+            }
+            match read_block(ty, ends, at, level, half.get(), shape, p + 1) {
+                Read::Not => Read::Not,
+                Read::Of(q, count) => {
+                    plus(count, read_list(ty, ends, at, level, half, shape, q))
+                }
+            }
+        }
+    }
+}
+
+// The number of records of the value file that reading the shape gives, 36 bytes each, or that it cannot be read (row 10).
+// The type file is an accepted one with its table of ends; the shape is looked at from its first record on, up to the end of what the type takes.
+pub fn value_records(ty: &[u8], ends: &[usize], shape: &[u8]) -> Records
+    requires { ⌜ Given 32 false (now ty) (now ends) 0 ⌝ }
+    requires { ⌜ length (now shape) ≤ most-shape-records ⌝ }
+    ensures { λ r. ⌜ r ≡ value-records (typeOf (now (ty .entry))) (now (shape .entry)) ⌝ }
+{
+    match read_record(ty, ends, 0, LEVELS, shape, 0) {
+        Read::Not => Records::Not,
+        Read::Of(_, count) => Records::Of(count),
+    }
+}

@@ -1,0 +1,11 @@
+pub mod Record
+pub mod Lengths
+pub mod Opening
+pub mod Check
+pub mod Steps
+pub mod Arms
+pub mod Below
+pub mod Follow
+pub mod Said
+pub mod Sizes
+pub mod Model

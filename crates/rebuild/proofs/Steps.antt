@@ -24,7 +24,8 @@ use Rattle.rebuild.specs.declared.Read.{Read}
 use Rattle.rebuild.specs.declared.Read.the-variants.{Of, Not}
 use Rattle.rebuild.specs.Reads.{Reader, plus, units, pairs, passes, bits}
 use Rattle.structural.specs.Forms.{Stands}
-use Rattle.rebuild.specs.Forms.{most-records, Limits, count-of, form-of, hops, skip, GivenPart, GivenParts, standing, part, balanced, chosen, block-of, listed}
+use Rattle.told.specs.Forms.{hops}
+use Rattle.rebuild.specs.Forms.{most-records, Limits, count-of, form-of, skip, GivenPart, GivenParts, standing, part, balanced, chosen, block-of, listed}
 use Rattle.rebuild.specs.Laws.Steps.{sum-left, sum-right, sum-no, pair-no, pair-stop, pair-on}
 use Rattle.rebuild.specs.Laws.Forms.{balanced-none, balanced-one, balanced-step, chosen-one, chosen-step, block-sum, given-one, given-left, given-right, ProductOf, SumOf, ListOf, PayloadOf, Formed, formed}
 use Rattle.rebuild.specs.Laws.Lists.{list-two, Halved, list-more}

@@ -12,6 +12,7 @@ use Rattle.types.specs.declared.Head.the-variants as head
 use Rattle.types.specs.Record.{recAt}
 use Rattle.types.specs.Trees.{tree, treev}
 use Rattle.structural.specs.Forms.{is-variant, Stands}
+use Rattle.told.specs.Forms.{hops, Hops}
 use Rattle.rebuild.specs.declared.Form.{Form}
 use Rattle.rebuild.specs.declared.Form.the-variants as form
 use Rattle.rebuild.specs.declared.Parts.{Parts}
@@ -49,15 +50,6 @@ form-of (Variants n) = form.Sum n
 form-of (head.Payload n) = form.Payload n
 
 -- PARTS
-
--- n records on, each time to the end that the table says
-unfoldable pub hops : List ℕ → ℕ → ℕ → ℕ
-hops E zero p = p
-hops E (suc n) p = hops E n (getD E p 0)
-
--- each of them stands in the table
-pub record Hops (E : List ℕ) (n p : ℕ) : Type 0 where
-  pub each : (i : ℕ) → i < n → hops E i p < length E
 
 -- the record after n parts
 abbrev pub skip : Parts → List ℕ → ℕ → ℕ → ℕ

@@ -1,4 +1,5 @@
--- What the first pass of `reconstruct` answers; `Laws` has what is proved of it.
+-- What shape files say, and what the first pass of `reconstruct` answers; `Laws` has what is proved of it.
+pub mod ShapeRows
 pub mod Reads
 pub mod Forms
 pub mod Laws

@@ -1,9 +1,11 @@
-// The first pass of `reconstruct`, after value.rs: a type and a shape are walked together, and the records of the value file are counted.
+// Shape files, and the first pass of `reconstruct`, after value.rs: a type and a shape are walked together, and the records of the value file are counted.
 use array::TreeEnd;
 use array::btree_split_index;
 use array::tree_end;
 use num::Bound;
 use num::NonZeroPow2Usize;
+use reply::Refusal;
+use told::hop;
 use types::Head;
 use types::head_at;
 ghost use mathlib.Core.Path.{_≡_};
@@ -15,9 +17,10 @@ ghost use Rattle.types.specs.Heads.{FairBound};
 ghost use Rattle.types.specs.Trees.{typeOf};
 ghost use Rattle.types.specs.Steps.{Given};
 ghost use Rattle.rebuild.specs.declared.Parts.the-variants.{Types};
+ghost use Rattle.rebuild.specs.ShapeRows.{ShapeTold};
 ghost use Rattle.rebuild.specs.Reads.{plus, units, passes, bits, value-records};
 ghost use Rattle.structural.specs.Forms.{most-parts, Stands};
-ghost use Rattle.rebuild.specs.Forms.{most-records, Limits, count-of, form-of, hops, Hops, skip, Hopped, GivenPart, GivenParts, standing, part, balanced, chosen, block-of, listed};
+ghost use Rattle.rebuild.specs.Forms.{most-records, Limits, count-of, form-of, skip, Hopped, GivenPart, GivenParts, standing, part, balanced, chosen, block-of, listed};
 
 // The records of a shape, and a byte that is none.
 const UNIT: u8 = 0;
@@ -30,7 +33,9 @@ const PAIR: u8 = 3;
 
 const NO_RECORD: u8 = 4;
 
-// The levels that a type may have.
+// The records that a shape may have, and the levels of a type.
+const RECORDS: usize = 65536;
+
 const LEVELS: usize = 32;
 
 // What reading gives: the place after the shape that was read and the number of value records, or that it cannot be read.
@@ -43,6 +48,12 @@ enum Read {
 pub enum Records {
     Of(usize),
     Not,
+}
+
+// What rows 8 and 9 say of a shape file.
+pub enum ShapeAnswer {
+    Ok,
+    Refused(Refusal),
 }
 
 // What the parts of a balanced product are, and where they stand in the type file.
@@ -137,20 +148,6 @@ fn read_bit(shape: &[u8], p: usize) -> Read
         return read_unit(shape, p + 1);
     }
     Read::Not
-}
-
-// The record that stands n records behind record `at`, each with all below it.
-fn hop(ends: &[usize], at: usize, n: usize) -> usize
-    requires { ⌜ Hops (now ends) n at ⌝ }
-    ensures { λ r. ⌜ r ≡ hops (now (ends .entry)) n at ⌝ }
-{
-    let mut next = at;
-    let mut left = n;
-    while 0 < left {
-        next = ends[next];
-        left -= 1;
-    }
-    next
 }
 
 // Reads what stands at record `at`, a type or a Variant's payload, with `level` levels from there on.
@@ -328,6 +325,24 @@ fn read_list(
                 }
             }
         }
+    }
+}
+
+// Rows 8 and 9 of a shape file: at most 65,536 records, and exactly one tree.
+pub fn check_shape(shape: &[u8]) -> ShapeAnswer
+    ensures { λ r. ⌜ ShapeTold (now (shape .entry)) r ⌝ }
+{
+    let n = shape.len();
+    if RECORDS < n {
+        return ShapeAnswer::Refused(Refusal::ShapeTooLong);
+    }
+    match tree_end(shape, 0) {
+        TreeEnd::At(end) => if end == n {
+            ShapeAnswer::Ok
+        } else {
+            ShapeAnswer::Refused(Refusal::NotOneTree)
+        },
+        TreeEnd::Nothing => ShapeAnswer::Refused(Refusal::NotOneTree),
     }
 }
 

@@ -59,7 +59,7 @@ run-one f v k = go (f v k)
     go (Next e j) = refl
     go (Bad x) = refl
 
-count-cases : (g : ℕ → Tys) (f : ℕ → Walk) (n at : ℕ) → count (cases g f n at) ≡ suc n
+pub count-cases : (g : ℕ → Tys) (f : ℕ → Walk) (n at : ℕ) → count (cases g f n at) ≡ suc n
 unfolding cases
 count-cases g f zero at = refl
 count-cases g f (suc n) at = ap suc (count-cases g f n (endOf (f at)))

@@ -58,7 +58,7 @@ cut-at size f (suc k) (suc i) l x h =
     let e : size + i * size ≡ suc i * size = omega (arith, suc-mul i size) in
     cut-at size f k i (drop size l) x (omega arith) ∙ ap (λ m. f (take size m)) (drop-drop (i * size) size l ∙ ap (λ n. drop n l) e)
 
-length-rows : (s : List ℕ) → length (rows s) ≡ length s / 36
+pub length-rows : (s : List ℕ) → length (rows s) ≡ length s / 36
 length-rows s = length-map (records 36 s) value-record ∙ length-cut 36 (length s / 36) s
 
 drop-take : (n m t : ℕ) (l : List ℕ) → t ≡ n + m → drop n (take t l) ≡ take m (drop n l)
@@ -80,10 +80,10 @@ row-bytes s v = λ i. record { kind = (byte 0 (omega arith) ∙ ap (λ n. getD s
     integer : drop 4 (take 36 (drop (v * 36) s)) ≡ take 32 (drop (v * 36 + 4) s)
     integer = drop-take 4 32 36 (drop (v * 36) s) refl ∙ ap (take 32) (drop-drop 4 (v * 36) s)
 
-rows-end : (s : List ℕ) (v : ℕ) → length s / 36 ≤ v → drop v (rows s) ≡ []
+pub rows-end : (s : List ℕ) (v : ℕ) → length s / 36 ≤ v → drop v (rows s) ≡ []
 rows-end s v h = let l : length (rows s) ≤ v = omega (arith, length-rows s) in drop-of-length-le (rows s) l
 
-rows-at : (s : List ℕ) (v : ℕ) → v < length s / 36 → drop v (rows s) ≡ row s v ∷ drop (v + 1) (rows s)
+pub rows-at : (s : List ℕ) (v : ℕ) → v < length s / 36 → drop v (rows s) ≡ row s v ∷ drop (v + 1) (rows s)
 rows-at s v h =
     drop-cons (rows s) v (row s v) (omega (arith, length-rows s))
     ∙ ap₂ {C = List Rec} (λ r n. r ∷ drop n (rows s)) (cut-at 36 value-record (length s / 36) v s (row s v) h ∙ row-bytes s v) (sym (add-one v))

@@ -51,7 +51,8 @@ enum Opens {
     Case(usize, usize),
 }
 
-fn wide(x: u8) -> usize
+// A byte as a number.
+pub fn wide(x: u8) -> usize
     ensures { λ r. ⌜ (r ≡ x) × (r < 256) ⌝ }
 {
     x as usize
@@ -146,7 +147,7 @@ fn end_at(ends: &[usize], i: usize) -> usize
 }
 
 // The number in bytes 2 and 3 of record v.
-fn number_of(val: &[u8], v: usize) -> usize
+pub fn number_of(val: &[u8], v: usize) -> usize
     requires { ⌜ v < length (now val) / 36 ⌝ }
     ensures { λ r. ⌜ r ≡ number-at (now (val .entry)) v ⌝ }
 {

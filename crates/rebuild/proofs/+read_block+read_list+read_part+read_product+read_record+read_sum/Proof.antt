@@ -39,7 +39,7 @@ use Rattle.num.proofs.NonZeroPow2Usize.checked_div2.Reads as checked-div2-reads
 use Rattle.num.proofs.NonZeroPow2Usize.get.Reads as get-reads
 use Rattle.rebuild.proofs.after.Reads as after-reads
 use Rattle.rebuild.proofs.form_of.Reads as form-of-reads
-use Rattle.rebuild.proofs.hop.Reads as hop-reads
+use Rattle.told.proofs.hop.Reads as hop-reads
 use Rattle.rebuild.proofs.plus.Reads as plus-reads
 use Rattle.rebuild.proofs.read_any.Reads as read-any-reads
 use Rattle.rebuild.proofs.read_bit.Reads as read-bit-reads

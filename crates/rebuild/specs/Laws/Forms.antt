@@ -31,7 +31,8 @@ use Rattle.rebuild.specs.declared.Parts.{Parts}
 use Rattle.rebuild.specs.declared.Parts.the-variants.{Bits, Copies, Types}
 use Rattle.rebuild.specs.Reads.{Reader, units, sums, pairs, passes, fails, products, choices, bits, blocks, lists, one, reads, readers, cases}
 use Rattle.structural.specs.Forms.{most-parts, is-variant, Stands}
-use Rattle.rebuild.specs.Forms.{form-of, hops, skip, Hopped, GivenPart, GivenParts, reading, standing, part, row, balanced, chosen, block-of, listed}
+use Rattle.told.specs.Forms.{hops}
+use Rattle.rebuild.specs.Forms.{form-of, skip, Hopped, GivenPart, GivenParts, reading, standing, part, row, balanced, chosen, block-of, listed}
 use Rattle.structural.specs.Laws.Bounds.{width-small}
 use Rattle.structural.specs.Laws.Forms.{walked-variant}
 

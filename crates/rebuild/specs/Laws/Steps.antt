@@ -15,7 +15,8 @@ use Rattle.rebuild.specs.declared.Parts.the-variants.{Bits, Copies, Type
 use Rattle.rebuild.specs.declared.Read.{Read}
 use Rattle.rebuild.specs.declared.Read.the-variants.{Of, Not}
 use Rattle.rebuild.specs.Reads.{Reader, plus, next, closed, side, both, passed, units, sums, pairs, passes}
-use Rattle.rebuild.specs.Forms.{most-records, count-of, hops, Hops, skip, Hopped}
+use Rattle.rebuild.specs.Forms.{most-records, count-of, skip, Hopped}
+use Rattle.told.specs.Forms.{hops, Hops}
 use Rattle.rebuild.specs.Laws.Small.{in-file}
 
 module _ (n : ℕ) (r : Read) (e k : ℕ) (h : r ≡ Of e k) where
@@ -101,23 +102,6 @@ module _ (s : List ℕ) (p : ℕ) where
     pair-on l r x y z q n e f g i j = j ∙ ap (plus n) i ∙ ap (λ o. next o r) (sym g ∙ f) ∙ ap (λ o. both o l r (p + 1)) (sym e ∙ h)
 
 -- PLACES IN THE TYPE FILE
-
-pub hops-next : (E : List ℕ) (n p : ℕ) → 0 < n → hops E n p ≡ hops E (n - 1) (getD E p 0)
-unfolding hops
-hops-next E zero p h = absurd (omega arith)
-hops-next E (suc n) p h = rw sub-one refl
-
-pub hops-none : (E : List ℕ) (n p : ℕ) → n ≡ 0 → hops E n p ≡ p
-unfolding hops
-hops-none E n p h = ap (λ i. hops E i p) h
-
-pub hops-first : (E : List ℕ) (n p : ℕ) → 0 < n → Hops E n p → p < length E
-unfolding hops
-hops-first E n p h g = g .each 0 h
-
-pub hops-rest : (E : List ℕ) (n p : ℕ) → 0 < n → Hops E n p → Hops E (n - 1) (getD E p 0)
-unfolding hops
-hops-rest E n p h g = record { each = λ i l. g .each (suc i) (omega arith) }
 
 module _ (k : Parts) (E : List ℕ) (n p : ℕ) where
   pub types-hopped : Hopped k E n p → k ≡ Types → Hops E n p

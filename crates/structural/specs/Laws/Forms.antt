@@ -56,7 +56,7 @@ walked-variant zero v s p e h = opened-variant v (recAt s p) _ e h
 walked-variant (suc d) v s p e h = opened-variant v (recAt s p) _ e h
 
 module _ {d : ℕ} {v : Bool} {s E : List ℕ} {p : ℕ} (g : Given d v s E p) where
-  is-kind : is-variant (recAt s p) ≡ v
+  pub is-kind : is-variant (recAt s p) ≡ v
   is-kind = walked-variant d v s p (g .starts .end) (g .starts .walks)
 
   pub stands : Stands d s E p
@@ -66,7 +66,7 @@ module _ {d : ℕ} {v : Bool} {s E : List ℕ} {p : ℕ} (g : Given d v s E p) w
   unfolding standing
   standing-is = rw is-kind
 
-  ending-is : ending d s p ≡ endOf (walk d v s p)
+  pub ending-is : ending d s p ≡ endOf (walk d v s p)
   unfolding ending
   ending-is = rw is-kind
 

@@ -3,10 +3,10 @@
 use mathlib.Core.Path.{_≡_, refl, sym, _∙_}
 use native.Mathlib.Omega.{arith}
 use borrow.Author.Needs.{needs}
-use Rattle.rebuild.specs.Forms.{hops, Hops}
-use Rattle.rebuild.specs.Laws.Steps.{hops-next, hops-none, hops-first, hops-rest}
-use Rattle.rebuild.proofs.hop.Statement.{statement}
-use Rattle.rebuild.proofs.hop.Tie as tie
+use Rattle.told.specs.Forms.{hops, Hops}
+use Rattle.told.specs.Laws.Hops.{hops-next, hops-none, hops-first, hops-rest}
+use Rattle.told.proofs.hop.Statement.{statement}
+use Rattle.told.proofs.hop.Tie as tie
 
 abbrev Inv-loop : tie.InvT-loop
 Inv-loop ends at n next₀ left₀ next left = (hops ends n at ≡ hops ends left next) × Hops ends left next

@@ -1,0 +1,9 @@
+pub mod Hops
+pub mod Seen
+pub mod Rows
+pub mod Arms
+pub mod Products
+pub mod Sums
+pub mod Bits
+pub mod Formed
+pub mod Whole

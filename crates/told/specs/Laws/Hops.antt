@@ -1,0 +1,25 @@
+-- Records in a row, as the loop over them needs it.
+use mathlib.Core.Path.{_≡_, refl, ap}
+use mathlib.Core.List.{List}
+use Prim.Native.Nat.{ℕ, zero, suc, _-_, _<_}
+use native.Mathlib.Numerals.{sub-one}
+use native.Mathlib.Omega.{arith}
+use lib.ListN.{length, getD}
+use Rattle.told.specs.Forms.{hops, Hops}
+
+pub hops-next : (E : List ℕ) (n p : ℕ) → 0 < n → hops E n p ≡ hops E (n - 1) (getD E p 0)
+unfolding hops
+hops-next E zero p h = absurd (omega arith)
+hops-next E (suc n) p h = rw sub-one refl
+
+pub hops-none : (E : List ℕ) (n p : ℕ) → n ≡ 0 → hops E n p ≡ p
+unfolding hops
+hops-none E n p h = ap (λ i. hops E i p) h
+
+pub hops-first : (E : List ℕ) (n p : ℕ) → 0 < n → Hops E n p → p < length E
+unfolding hops
+hops-first E n p h g = g .each 0 h
+
+pub hops-rest : (E : List ℕ) (n p : ℕ) → 0 < n → Hops E n p → Hops E (n - 1) (getD E p 0)
+unfolding hops
+hops-rest E n p h g = record { each = λ i l. g .each (suc i) (omega arith) }

@@ -1,0 +1,3 @@
+-- What a checked value file tells, record by record; `Laws` has what is proved of it.
+pub mod Forms
+pub mod Laws

@@ -1,2 +1,3 @@
 pub mod Delivering
 pub mod Lowers
+pub mod Shapes

@@ -5,7 +5,7 @@ use mathlib.Core.List.{List}
 use Prim.Native.Nat.{ℕ, _<_, _≤_}
 use native.Mathlib.Omega.{arith}
 use lib.ListN.{length, getD}
-use Rattle.model.specs.Numbers.{never-stands, too-large}
+use Rattle.model.specs.Numbers.{never-stands, too-large, most-shape-records}
 use Rattle.model.specs.Outcome.{done, refuse, _>>_}
 use Rattle.model.specs.Structural.{type-records}
 use Rattle.model.specs.Lowering.{lower, has-never, over-large}
@@ -40,7 +40,7 @@ module _ {s E S W : List ℕ} {r : TypeAnswer} (p : Tabled s r E S W) where
     pub lower-given : Given 32 false s E 0
     lower-given = record { starts = accepted s n (table .accepted); ends = table .ends }
 
-    lowers : lowering s ≡ done (tree 32 s 0)
+    pub lowers : lowering s ≡ done (tree 32 s 0)
     lowers = rw (p .answer, e) refl
 
     -- row 7 does not hold
@@ -52,13 +52,17 @@ module _ {s E S W : List ℕ} {r : TypeAnswer} (p : Tabled s r E S W) where
         let (_, g) = refuse-step never-stands (has-never t) (refuse too-large (over-large t) >> done t) t h in
         refuse-step too-large (over-large t) (done t) t g .0
 
+    -- the lowered type has no more records than row 7 allows
+    pub lowers-small : length (type-records (lower (tree 32 s 0))) ≤ most-shape-records
+    lowers-small = small (tree 32 s 0) not-large
+
     -- the file's own size is not cut: it is the length of its lowered type
     lowered-size : getD S 0 0 ≡ length (type-records (low 32 false s 0))
     unfolding low
     lowered-size =
         let g = lower-given .starts in
         let k = table .measured .size 0 32 (g .end) false (omega arith) (g .walks) in
-        omega (arith, small (tree 32 s 0) not-large, length-type-records (lower (tree 32 s 0)))
+        omega (arith, lowers-small, length-type-records (lower (tree 32 s 0)))
 
     lowered-is : lowered s ≡ done (type-records (low 32 false s 0))
     unfolding lowered low

@@ -2,7 +2,7 @@
 use reply::length_of;
 use reply::number;
 ghost use mathlib.Core.Path.{_≡_};
-ghost use Rattle.model.specs.Operations.{lowered, delivered};
+ghost use Rattle.model.specs.Operations.{lowered, shaped, delivered};
 
 // `lower` for C: the number, 0 where the type is lowered; `length` is 0 where it is not.
 #[no_mangle]
@@ -10,6 +10,21 @@ pub extern "C" fn niegluk_lower(ty: &[u8], out: &mut [u8], length: &mut usize) -
     ensures { λ r. ⌜ (r, now (length .exit), now (out .exit)) ≡ delivered (lowered (now (ty .entry))) (now (out .entry)) ⌝ }
 {
     let reply = crate::lower(ty, out);
+    *length = length_of(reply);
+    number(reply)
+}
+
+// `write_shape` for C: the number, 0 where the shape is written; `length` is 0 where it is not.
+#[no_mangle]
+pub extern "C" fn niegluk_write_shape(
+    ty: &[u8],
+    value: &[u8],
+    out: &mut [u8],
+    length: &mut usize,
+) -> u32
+    ensures { λ r. ⌜ (r, now (length .exit), now (out .exit)) ≡ delivered (shaped (now (ty .entry)) (now (value .entry))) (now (out .entry)) ⌝ }
+{
+    let reply = crate::write_shape(ty, value, out);
     *length = length_of(reply);
     number(reply)
 }

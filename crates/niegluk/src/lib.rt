@@ -4,8 +4,10 @@ use reply::Reply;
 use structural::write_lowered;
 use table::tabulate;
 use types::TypeAnswer;
+use value::Checked;
+use value::check_file;
 ghost use mathlib.Core.Path.{_≡_};
-ghost use Rattle.model.specs.Operations.{lowered, delivered};
+ghost use Rattle.model.specs.Operations.{lowered, shaped, delivered};
 ghost use Rattle.reply.specs.Numbers.{numberOf, lengthOf};
 
 mod c;
@@ -25,5 +27,26 @@ pub fn lower(ty: &[u8], out: &mut [u8]) -> Reply
             }
             Reply::Done(write_lowered(ty, &ends, 0, 32, out))
         }
+    }
+}
+
+// Writes the shape of a value over the front of `out`, and answers its length; every byte behind it stays, and all of them where it is refused.
+pub fn write_shape(ty: &[u8], value: &[u8], out: &mut [u8]) -> Reply
+    ensures { λ r. ⌜ (numberOf r, lengthOf r, now (out .exit)) ≡ delivered (shaped (now (ty .entry)) (now (value .entry))) (now (out .entry)) ⌝ }
+{
+    let mut ends = [0usize; 1024];
+    let mut sizes = [0usize; 1024];
+    let mut widths = [0usize; 1024];
+    match tabulate(ty, &mut ends, &mut sizes, &mut widths) {
+        TypeAnswer::Refused(x) => Reply::Refused(x),
+        TypeAnswer::Ok(_) => match check_file(ty, &ends, value) {
+            Checked::Bad(x) => Reply::Refused(x),
+            Checked::Next(_, size) => {
+                if out.len() < size {
+                    return Reply::Refused(Refusal::NoRoom);
+                }
+                Reply::Done(shape::write_shape(ty, &ends, value, out))
+            }
+        },
     }
 }

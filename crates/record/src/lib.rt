@@ -1,4 +1,6 @@
-// One record of a value file, written: 36 bytes, kind, choice, a number of two bytes, an integer of 32 bytes.
+// One record of a value file, written: 36 bytes, kind, choice, a number of two bytes, an integer of 32 bytes. And how a type's record says to read a value.
+use num::NonZeroPow2Usize;
+use told::Parts;
 use types::Head;
 ghost use mathlib.Core.Path.{_≡_};
 ghost use Prim.Native.Nat.{_<_, _≤_};
@@ -6,7 +8,19 @@ ghost use lib.ListN.{length};
 ghost use Rattle.types.specs.Heads.{Fair};
 ghost use Rattle.model.specs.ValueFiles.{rec};
 ghost use Rattle.structural.specs.Writing.{put};
+ghost use Rattle.record.specs.Forms.{form-of};
 ghost use Rattle.record.specs.Marks.{mark-of, Marks, Marked, bytes, zeros};
+
+// How a type's record is read: as a bit, as an integer of so many, as a product of so many parts, as a sum, as a list, or as a Variant's payload, which is no record of the value.
+pub enum Form {
+    Nothing,
+    Bit,
+    Integer(usize),
+    Product(Parts, usize),
+    Sum(usize),
+    List(NonZeroPow2Usize),
+    Payload(usize),
+}
 
 // The kind, choice and number of a record.
 struct Mark {
@@ -116,4 +130,24 @@ pub fn write_mark(out: &mut [u8], h: Head, i: usize)
 {
     let m = mark_of(h, i);
     write_head(out, m.kind, m.choice, m.n);
+}
+
+// The form of what a record says.
+pub fn form_of(h: Head) -> Form
+    ensures { λ r. ⌜ r ≡ form-of h ⌝ }
+{
+    match h {
+        Head::Missing => Form::Nothing,
+        Head::Faulty => Form::Nothing,
+        Head::Never => Form::Nothing,
+        Head::Boolean => Form::Bit,
+        Head::UInt(w) => Form::Integer(w.get()),
+        Head::Either => Form::Sum(2),
+        Head::Opt => Form::List(NonZeroPow2Usize::TWO),
+        Head::Tuple(n) => Form::Product(Parts::Types, n),
+        Head::Array(n) => Form::Product(Parts::Copies, n),
+        Head::Listed(b) => Form::List(b),
+        Head::Variants(n) => Form::Sum(n),
+        Head::Payload(n) => Form::Payload(n),
+    }
 }

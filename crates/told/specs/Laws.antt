@@ -7,3 +7,5 @@ pub mod Sums
 pub mod Bits
 pub mod Formed
 pub mod Whole
+pub mod Trees
+pub mod Lists

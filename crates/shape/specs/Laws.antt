@@ -1,0 +1,3 @@
+pub mod Writing
+pub mod Bits
+pub mod Whole

@@ -10,6 +10,11 @@
  *     5   a record of the type file is missing, or some are left over
  *     6   Never stands anywhere in the type
  *     7   the type, a type in it or a payload type lowers to over 65,536 records
+ *     8   the shape has over 65,536 records
+ *     9   a byte of the shape is above 3, or it is not exactly one tree
+ *    10   the shape does not read as a value of the type
+ *    15   the value file's length is zero or no multiple of 36
+ *    16   the value file is not one value of the type
  *    17   the result needs more bytes than the buffer has
  *
  * The length of the result goes to *length: 0 where the operation is refused. A buffer of exactly that length is enough.
@@ -39,6 +44,15 @@ extern "C" {
  * Stack: 96 KiB are enough, 24 of them for a table; the rest grows with the depth, and with the logarithm of the parts at each level.
  * (The most that was measured is 90 KiB, on x86-64.) */
 uint32_t niegluk_lower(const uint8_t *ty, size_t ty_len, uint8_t *out, size_t out_len, size_t *length);
+
+/* Writes the shape of a value: its records, one byte each (0 a unit, 1 a left, 2 a right, 3 a pair), parent first.
+ * At most 65,536 bytes. Numbers 1 to 7, 15, 16 and 17. */
+uint32_t niegluk_write_shape(const uint8_t *ty, size_t ty_len, const uint8_t *value, size_t value_len, uint8_t *out, size_t out_len, size_t *length);
+
+/* Reads a shape as a value of a type, and writes its value file, 36 bytes a record. The type need not lower: a Never is refused only
+ * where the shape reaches it. What lies under an empty tuple, an array of 0 or a variant without parts is passed over.
+ * At most 77,856,768 bytes. Numbers 1 to 5, 8, 9, 10 and 17. */
+uint32_t niegluk_reconstruct(const uint8_t *ty, size_t ty_len, const uint8_t *shape, size_t shape_len, uint8_t *out, size_t out_len, size_t *length);
 
 #ifdef __cplusplus
 }

@@ -1,5 +1,5 @@
-/* Calls niegluk_lower on the types of a small table, each with a buffer that is longer than the result, one of exactly
- * its length and one that is a byte short, and compares the number, the length and every byte of the buffer.
+/* Calls the functions of the library on a small table of files, each with a buffer that is longer than the result, one of
+ * exactly its length and one that is a byte short, and compares the number, the length and every byte of the buffer.
  * The answers are those that the papers give, or a few lines of theirs worked out by hand. */
 #include <stdio.h>
 #include <stdlib.h>
@@ -8,7 +8,8 @@
 
 enum { MOST = 65536, SPARE = 16, FILL = 0xA5 };
 
-static uint8_t type_file[8192];
+enum operation { LOWER, SHAPE, RECONSTRUCT };
+
 static uint8_t buffer[MOST + SPARE];
 static int failures;
 
@@ -28,64 +29,99 @@ static int untouched(size_t from)
     return 1;
 }
 
-/* One call with a buffer of out_len bytes. */
-static uint32_t call(const uint8_t *ty, size_t ty_len, size_t out_len, size_t *length)
+/* A file in the table's spelling. */
+struct file { uint8_t bytes[8192]; size_t length; };
+
+/* Bytes in hexadecimal digits, spaces skipped. */
+static struct file hex(const char *text)
 {
-    memset(buffer, FILL, sizeof buffer);
-    *length = 12345;
-    return niegluk_lower(ty, ty_len, out_len == 0 ? NULL : buffer, out_len, length);
+    struct file file = { { 0 }, 0 };
+    unsigned byte;
+    for (; *text != '\0'; text += *text == ' ' ? 1 : 2)
+        if (*text != ' ' && sscanf(text, "%2x", &byte) == 1)
+            file.bytes[file.length++] = (uint8_t)byte;
+    return file;
 }
 
-static void refused(const char *name, const uint8_t *ty, size_t ty_len, uint32_t number)
+/* Records of a shape or a lowered type, a digit each. */
+static struct file digits(const char *text)
+{
+    struct file file = { { 0 }, 0 };
+    for (; *text != '\0'; text++)
+        file.bytes[file.length++] = (uint8_t)(*text - '0');
+    return file;
+}
+
+/* Records of a value: eight digits for the first four bytes, and after a colon two for the integer's last byte. */
+static struct file value(const char *text)
+{
+    struct file file = { { 0 }, 0 };
+    unsigned head, last;
+    while (*text != '\0') {
+        uint8_t *record = file.bytes + file.length;
+        int used = 0;
+        if (sscanf(text, "%8x%n", &head, &used) != 1)
+            abort();
+        for (int i = 0; i < 4; i++)
+            record[i] = (uint8_t)(head >> (24 - 8 * i));
+        text += used;
+        if (*text == ':' && sscanf(text, ":%2x%n", &last, &used) == 1) {
+            record[35] = (uint8_t)last;
+            text += used;
+        }
+        file.length += 36;
+        while (*text == ' ')
+            text++;
+    }
+    return file;
+}
+
+/* One call with a buffer of out_len bytes. */
+static uint32_t call(enum operation op, const struct file *ty, const struct file *other, size_t out_len, size_t *length)
+{
+    uint8_t *out = out_len == 0 ? NULL : buffer;
+    memset(buffer, FILL, sizeof buffer);
+    *length = 12345;
+    switch (op) {
+    case LOWER:
+        return niegluk_lower(ty->bytes, ty->length, out, out_len, length);
+    case SHAPE:
+        return niegluk_write_shape(ty->bytes, ty->length, other->bytes, other->length, out, out_len, length);
+    case RECONSTRUCT:
+        return niegluk_reconstruct(ty->bytes, ty->length, other->bytes, other->length, out, out_len, length);
+    }
+    abort();
+}
+
+static void refused(const char *name, enum operation op, const struct file *ty, const struct file *other, uint32_t number)
 {
     size_t length;
-    expect(call(ty, ty_len, MOST, &length) == number, name, "another number");
+    expect(call(op, ty, other, MOST, &length) == number, name, "another number");
     expect(length == 0, name, "a refusal has a length");
     expect(untouched(0), name, "a refusal changed the buffer");
 }
 
-/* digits: the records, or null where only their number is known. */
-static void lowers(const char *name, const uint8_t *ty, size_t ty_len, const char *digits, size_t records)
+/* result: null where only its length is known. */
+static void gives(const char *name, enum operation op, const struct file *ty, const struct file *other, const uint8_t *result, size_t bytes)
 {
-    const size_t rooms[] = { MOST, records, records + 1 };
+    const size_t rooms[] = { MOST, bytes, bytes + 1 };
     size_t length;
     for (size_t k = 0; k < sizeof rooms / sizeof *rooms; k++) {
-        expect(call(ty, ty_len, rooms[k], &length) == 0, name, "refused");
-        expect(length == records, name, "another length");
-        for (size_t i = 0; digits != NULL && i < records; i++)
-            expect(buffer[i] == digits[i] - '0', name, "another record");
-        expect(untouched(records), name, "a byte past the end changed");
+        expect(call(op, ty, other, rooms[k], &length) == 0, name, "refused");
+        expect(length == bytes, name, "another length");
+        expect(result == NULL || memcmp(buffer, result, bytes) == 0, name, "another result");
+        expect(untouched(bytes), name, "a byte past the end changed");
     }
-    expect(call(ty, ty_len, records - 1, &length) == 17, name, "no 17 where the buffer is a byte short");
+    if (bytes == 0)
+        return;
+    expect(call(op, ty, other, bytes - 1, &length) == 17, name, "no 17 where the buffer is a byte short");
     expect(length == 0 && untouched(0), name, "17 left a length or changed the buffer");
-    expect(call(ty, ty_len, 0, &length) == 17 && length == 0, name, "no 17 without a buffer");
+    expect(call(op, ty, other, 0, &length) == 17 && length == 0, name, "no 17 without a buffer");
 }
 
-/* The bytes that hexadecimal digits say, spaces skipped. */
-static size_t bytes(const char *hex)
+static void types(void)
 {
-    size_t n = 0;
-    unsigned byte;
-    for (; *hex != '\0'; hex += *hex == ' ' ? 1 : 2)
-        if (*hex != ' ' && sscanf(hex, "%2x", &byte) == 1)
-            type_file[n++] = (uint8_t)byte;
-    return n;
-}
-
-/* n Options and a Boolean under them, and `more` Booleans behind. */
-static size_t options(size_t n, size_t more)
-{
-    memset(type_file, 0, sizeof type_file);
-    for (size_t i = 0; i < n; i++)
-        type_file[4 * i] = 4;
-    for (size_t i = n; i <= n + more; i++)
-        type_file[4 * i] = 1;
-    return 4 * (n + 1 + more);
-}
-
-int main(void)
-{
-    static const struct { const char *name, *hex, *digits; } good[] = {
+    static const struct { const char *name, *type, *lowered; } good[] = {
         { "()", "05000000", "0" },
         { "boolean", "01000000", "100" },
         { "u2", "02000002", "2100100" },
@@ -99,7 +135,7 @@ int main(void)
         { "array of 0", "06000000 01000000", "0" },
         { "array of 3", "06000003 05000000", "20200" },
     };
-    static const struct { const char *name, *hex; uint32_t number; } bad[] = {
+    static const struct { const char *name, *type; uint32_t number; } bad[] = {
         { "no bytes", "", 1 },
         { "three bytes", "050000", 1 },
         { "kind 10", "0a000000", 3 },
@@ -115,26 +151,126 @@ int main(void)
         { "over-large in an array of 0", "06000000 06008001 05000000", 7 },
         { "never before over-large", "05000002 06008001 05000000 00000000", 6 },
     };
-    size_t n, length;
     for (size_t i = 0; i < sizeof good / sizeof *good; i++) {
-        n = bytes(good[i].hex);
-        lowers(good[i].name, type_file, n, good[i].digits, strlen(good[i].digits));
+        struct file ty = hex(good[i].type), lowered = digits(good[i].lowered);
+        gives(good[i].name, LOWER, &ty, NULL, lowered.bytes, lowered.length);
     }
     for (size_t i = 0; i < sizeof bad / sizeof *bad; i++) {
-        n = bytes(bad[i].hex);
-        refused(bad[i].name, type_file, n, bad[i].number);
+        struct file ty = hex(bad[i].type), empty = { { 0 }, 0 };
+        refused(bad[i].name, LOWER, &ty, NULL, bad[i].number);
+        refused(bad[i].name, SHAPE, &ty, &empty, bad[i].number);
+        if (bad[i].number <= 5)
+            refused(bad[i].name, RECONSTRUCT, &ty, &empty, bad[i].number);
     }
-    n = bytes("06008000 05000000");
-    lowers("array of 32,768 units", type_file, n, NULL, 65535);
-    n = options(31, 0);
-    lowers("boolean under 31 options", type_file, n, NULL, 65);
-    n = options(32, 0);
-    refused("boolean under 32 options", type_file, n, 4);
-    n = options(0, 1024);
-    refused("1,025 records", type_file, n, 2);
-    expect(call(NULL, 0, MOST, &length) == 1 && length == 0, "no type", "no 1 for a null pointer with length 0");
+}
+
+/* n Options and a Boolean under them, and `more` Booleans behind. */
+static struct file options(size_t n, size_t more)
+{
+    struct file file = { { 0 }, 4 * (n + 1 + more) };
+    for (size_t i = 0; i < n + 1 + more; i++)
+        file.bytes[4 * i] = i < n ? 4 : 1;
+    return file;
+}
+
+static void limits(void)
+{
+    struct file ty = hex("06008000 05000000");
+    size_t length;
+    gives("array of 32,768 units", LOWER, &ty, NULL, NULL, 65535);
+    ty = options(31, 0);
+    gives("boolean under 31 options", LOWER, &ty, NULL, NULL, 65);
+    ty = options(32, 0);
+    refused("boolean under 32 options", LOWER, &ty, NULL, 4);
+    ty = options(0, 1024);
+    refused("1,025 records", LOWER, &ty, NULL, 2);
+    length = 1;
+    expect(niegluk_lower(NULL, 0, buffer, MOST, &length) == 1 && length == 0, "no type", "no 1 for a null pointer with length 0");
+}
+
+/* Each value is written to its shape, and the shape is read back to the value's file. */
+static void values(void)
+{
+    static const struct { const char *name, *type, *value, *shape; } good[] = {
+        { "no elements", "07000004 02000001", "07000000", "31010" },
+        { "[1]", "07000004 02000001", "07000001 02000001:01", "310220" },
+        { "[1, 0]", "07000004 02000001", "07000002 02000001:01 02000001", "323201010" },
+        { "[1, 0, 1]", "07000004 02000001", "07000003 02000001:01 02000001 02000001:01", "3232010220" },
+        { "four hits, bound 8", "07000008 02000001", "07000004 02000001:01 02000001:01 02000001:01 02000001:01", "323320203202031010" },
+        { "variant 0", "08000003 09000000 09000001 02000001 09000002 02000001 01000000", "08000000", "10" },
+        { "variant 1", "08000003 09000000 09000001 02000001 09000002 02000001 01000000", "08000001 02000001:01", "2120" },
+        { "variant 2", "08000003 09000000 09000001 02000001 09000002 02000001 01000000", "08000002 02000001:01 01000000", "2232010" },
+        { "one variant", "08000001 09000001 02000001", "08000000 02000001:01", "20" },
+        { "the sample", "05000002 02000004 07000004 02000001", "05000002 02000004:09 07000001 02000001:01", "333201031020310220" },
+        { "right true", "03000000 02000004 01000000", "03010000 01010000", "220" },
+        { "left 9", "03000000 02000004 01000000", "03000000 02000004:09", "133201031020" },
+        { "some none", "04000000 04000000 01000000", "04010000 04000000", "210" },
+        { "()", "05000000", "05000000", "0" },
+        { "tuple of one", "05000001 01000000", "05000001 01010000", "20" },
+        { "array of 3 booleans", "06000003 01000000", "06000003 01000000 01010000 01010000", "31032020" },
+        { "array of 0", "06000000 01000000", "06000000", "0" },
+    };
+    static const struct { const char *name, *type, *value; uint32_t number; } bad[] = {
+        { "no value", "01000000", "", 15 },
+        { "four elements, bound 4", "07000004 02000001", "07000004 02000001 02000001 02000001 02000001", 16 },
+        { "a u1 that holds 2", "02000001", "02000001:02", 16 },
+        { "another width", "02000001", "02000002", 16 },
+        { "a choice of 2", "01000000", "01020000", 16 },
+        { "a record left over", "01000000", "01000000 01000000", 16 },
+        { "a record missing", "04000000 01000000", "04010000", 16 },
+        { "a variant too many", "08000001 09000000", "08000001", 16 },
+        { "an array of another size", "06000002 01000000", "06000001 01000000", 16 },
+        { "never", "04000000 00000000", "04000000", 6 },
+    };
+    static const struct { const char *name, *type, *shape, *value; } odd[] = {
+        { "a pair under ()", "05000000", "300", "05000000" },
+        { "option never", "04000000 00000000", "10", "04000000" },
+        { "a pair under an array of 0", "06000000 00000000", "300", "06000000" },
+        { "a pair under a variant without parts", "08000002 09000000 09000000", "2300", "08000001" },
+        { "an array too large to lower", "04000000 06008001 05000000", "10", "04000000" },
+    };
+    static const struct { const char *name, *type, *shape; uint32_t number; } none[] = {
+        { "no records", "01000000", "", 9 },
+        { "a byte above 3", "01000000", "4", 9 },
+        { "a tree missing", "01000000", "1", 9 },
+        { "a tree left over", "01000000", "100", 9 },
+        { "a pair under none", "04000000 01000000", "1300", 10 },
+        { "never", "00000000", "0", 10 },
+        { "u2 with one bit short", "02000002", "3100", 10 },
+        { "a unit for a bit", "01000000", "0", 10 },
+    };
+    for (size_t i = 0; i < sizeof good / sizeof *good; i++) {
+        struct file ty = hex(good[i].type), val = value(good[i].value), shape = digits(good[i].shape);
+        gives(good[i].name, SHAPE, &ty, &val, shape.bytes, shape.length);
+        gives(good[i].name, RECONSTRUCT, &ty, &shape, val.bytes, val.length);
+    }
+    for (size_t i = 0; i < sizeof bad / sizeof *bad; i++) {
+        struct file ty = hex(bad[i].type), val = value(bad[i].value);
+        refused(bad[i].name, SHAPE, &ty, &val, bad[i].number);
+    }
+    for (size_t i = 0; i < sizeof odd / sizeof *odd; i++) {
+        struct file ty = hex(odd[i].type), shape = digits(odd[i].shape), val = value(odd[i].value);
+        gives(odd[i].name, RECONSTRUCT, &ty, &shape, val.bytes, val.length);
+    }
+    for (size_t i = 0; i < sizeof none / sizeof *none; i++) {
+        struct file ty = hex(none[i].type), shape = digits(none[i].shape);
+        refused(none[i].name, RECONSTRUCT, &ty, &shape, none[i].number);
+    }
+    struct file ty = hex("01000000");
+    static uint8_t long_shape[MOST + 1];
+    size_t length;
+    memset(buffer, FILL, sizeof buffer);
+    expect(niegluk_reconstruct(ty.bytes, ty.length, long_shape, MOST + 1, buffer, MOST, &length) == 8 && length == 0 && untouched(0), "65,537 records", "not 8");
+    expect(niegluk_reconstruct(ty.bytes, ty.length, long_shape, MOST, buffer, MOST, &length) == 9 && length == 0 && untouched(0), "65,536 units", "not 9");
+}
+
+int main(void)
+{
+    types();
+    limits();
+    values();
     if (failures != 0)
         return 1;
-    printf("niegluk_lower: all as expected\n");
+    printf("niegluk: all as expected\n");
     return 0;
 }

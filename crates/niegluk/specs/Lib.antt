@@ -1,3 +1,5 @@
 pub mod Delivering
 pub mod Lowers
 pub mod Shapes
+pub mod Reconstructs
+pub mod Demands

@@ -1,13 +1,10 @@
 -- What `write_shape` knows at each of its answers: rows 1 to 7 and the table as `lower`, then rows 15 and 16 and the shape's length.
 use mathlib.Core.Path.{_≡_, refl, sym, ap, _∙_}
-use mathlib.Core.Bool.{false}
 use mathlib.Core.List.{List}
-use mathlib.Core.Option.{some, Option·some-injective}
-use Prim.Native.Nat.{ℕ, _/_, _<_, _≤_}
+use Prim.Native.Nat.{ℕ, _<_, _≤_}
 use native.Mathlib.Omega.{arith}
 use lib.ListN.{length}
 use Rattle.model.specs.Outcome.{Outcome, done, refused, _>>=_}
-use Rattle.model.specs.Structural.{SValue, shape-records}
 use Rattle.model.specs.Values.{Value, inject}
 use Rattle.model.specs.ShapeFiles.{shape-file}
 use Rattle.model.specs.ValueFiles.{value-of}
@@ -26,8 +23,8 @@ use Rattle.value.specs.declared.Checked.the-variants.{Next, Bad}
 use Rattle.value.specs.Check.{file-answer}
 use Rattle.value.specs.Model.{outcome-of, value-of-is, nothing-cut}
 use Rattle.told.specs.Forms.{standing}
-use Rattle.told.specs.Laws.Whole.{whole-told}
 use Rattle.shape.specs.Forms.{Ready, Shaped}
+use Rattle.shape.specs.Laws.Whole.{value-ready, value-shaped}
 use Rattle.niegluk.specs.Delivering.{Delivers, deliver-refusal, deliver-no-room, deliver-result}
 use Rattle.niegluk.specs.Lowers.{lower-given, lowers, lowers-small}
 
@@ -95,17 +92,11 @@ module _ {s E S W : List ℕ} {r : TypeAnswer} (p : Tabled s r E S W) where
       unfolding shaped
       shaped-is = rw (lowers p e, value-read .is) refl
 
-      stands : standing 32 s val 0 0 ≡ some (inject (tree 32 s 0) (value-read .had), length val / 36)
-      stands = whole-told s E val (value-read .had) (lower-given p e) (value-read .is)
-
       pub shape-no-room : {O : List ℕ} → length O < size → Delivers (shaped s val) O O (reply.Refused NoRoom)
       shape-no-room {O} l = deliver-no-room (shaped s val) O records shaped-is (omega (arith, shape-size))
 
       pub shape-ready : (O : List ℕ) → size ≤ length O → Ready (standing 32 s val 0 0) O
-      shape-ready O l = record { shape = inject (tree 32 s 0) (value-read .had); end = length val / 36; told = stands; room = omega (arith, shape-size) }
+      shape-ready O l = value-ready s E val (value-read .had) (lower-given p e) (value-read .is) O (omega (arith, shape-size))
 
       pub shape-done : {O O′ : List ℕ} {m : ℕ} → size ≤ length O → Shaped (standing 32 s val 0 0) O O′ m → Delivers (shaped s val) O O′ (reply.Done m)
-      shape-done {O} {O′} {m} l w =
-          let d = w .placed in
-          let same : inject (tree 32 s 0) (value-read .had) ≡ d .shape = ap (λ x. x .0) (Option·some-injective _ _ (sym stands ∙ d .told)) in
-          deliver-result (shaped s val) O O′ records m shaped-is (omega (arith, shape-size)) (rw same (d .wrote))
+      shape-done {O} {O′} {m} l w = deliver-result (shaped s val) O O′ records m shaped-is (omega (arith, shape-size)) (value-shaped s E val (value-read .had) (lower-given p e) (value-read .is) w)

@@ -2,16 +2,16 @@
 use reply::length_of;
 use reply::number;
 ghost use mathlib.Core.Path.{_≡_};
-ghost use Rattle.model.specs.Operations.{lowered, shaped, delivered};
+ghost use Rattle.model.specs.Operations.{lowered, shaped, reconstructed, delivered};
 
 // `lower` for C: the number, 0 where the type is lowered; `length` is 0 where it is not.
 #[no_mangle]
 pub extern "C" fn niegluk_lower(ty: &[u8], out: &mut [u8], length: &mut usize) -> u32
     ensures { λ r. ⌜ (r, now (length .exit), now (out .exit)) ≡ delivered (lowered (now (ty .entry))) (now (out .entry)) ⌝ }
 {
-    let reply = crate::lower(ty, out);
-    *length = length_of(reply);
-    number(reply)
+    let lowered = crate::lower(ty, out);
+    *length = length_of(lowered);
+    number(lowered)
 }
 
 // `write_shape` for C: the number, 0 where the shape is written; `length` is 0 where it is not.
@@ -24,7 +24,22 @@ pub extern "C" fn niegluk_write_shape(
 ) -> u32
     ensures { λ r. ⌜ (r, now (length .exit), now (out .exit)) ≡ delivered (shaped (now (ty .entry)) (now (value .entry))) (now (out .entry)) ⌝ }
 {
-    let reply = crate::write_shape(ty, value, out);
-    *length = length_of(reply);
-    number(reply)
+    let shaped = crate::write_shape(ty, value, out);
+    *length = length_of(shaped);
+    number(shaped)
+}
+
+// `reconstruct` for C: the number, 0 where the value file is written; `length` is 0 where it is not.
+#[no_mangle]
+pub extern "C" fn niegluk_reconstruct(
+    ty: &[u8],
+    shape: &[u8],
+    out: &mut [u8],
+    length: &mut usize,
+) -> u32
+    ensures { λ r. ⌜ (r, now (length .exit), now (out .exit)) ≡ delivered (reconstructed (now (ty .entry)) (now (shape .entry))) (now (out .entry)) ⌝ }
+{
+    let restored = crate::reconstruct(ty, shape, out);
+    *length = length_of(restored);
+    number(restored)
 }

@@ -1,13 +1,19 @@
 // The public entries: each takes whole files and a buffer for its result, asks nothing of its caller, and answers a `Reply`.
+use rebuild::Records;
+use rebuild::ShapeAnswer;
+use rebuild::check_shape;
+use rebuild::value_records;
 use reply::Refusal;
 use reply::Reply;
+use restore::write_value;
 use structural::write_lowered;
 use table::tabulate;
 use types::TypeAnswer;
+use types::check_type;
 use value::Checked;
 use value::check_file;
 ghost use mathlib.Core.Path.{_≡_};
-ghost use Rattle.model.specs.Operations.{lowered, shaped, delivered};
+ghost use Rattle.model.specs.Operations.{lowered, shaped, reconstructed, delivered};
 ghost use Rattle.reply.specs.Numbers.{numberOf, lengthOf};
 
 mod c;
@@ -47,6 +53,29 @@ pub fn write_shape(ty: &[u8], value: &[u8], out: &mut [u8]) -> Reply
                 }
                 Reply::Done(shape::write_shape(ty, &ends, value, out))
             }
+        },
+    }
+}
+
+// Writes the value file that a shape gives as one of the type over the front of `out`, and answers its length; every byte behind it stays, and all of them where it is refused.
+// It needs no lowering: a Never is refused only where the shape reaches it.
+pub fn reconstruct(ty: &[u8], shape: &[u8], out: &mut [u8]) -> Reply
+    ensures { λ r. ⌜ (numberOf r, lengthOf r, now (out .exit)) ≡ delivered (reconstructed (now (ty .entry)) (now (shape .entry))) (now (out .entry)) ⌝ }
+{
+    let mut ends = [0usize; 1024];
+    match check_type(ty, &mut ends) {
+        TypeAnswer::Refused(x) => Reply::Refused(x),
+        TypeAnswer::Ok(_) => match check_shape(shape) {
+            ShapeAnswer::Refused(x) => Reply::Refused(x),
+            ShapeAnswer::Ok => match value_records(ty, &ends, shape) {
+                Records::Not => Reply::Refused(Refusal::NotReconstructed),
+                Records::Of(n) => {
+                    if out.len() < n * 36 {
+                        return Reply::Refused(Refusal::NoRoom);
+                    }
+                    Reply::Done(write_value(ty, &ends, shape, out))
+                }
+            },
         },
     }
 }

@@ -1,5 +1,6 @@
 -- `niegluk::write_shape` meets its contract. Rows 1 to 7 and the table come from `tabulate`, rows 15 and 16 and the shape's length from
 -- `check_file`, so the entry's own test is row 17, and where it passes there is room for the writer. Each answer is one law of `Shapes`. Assumes nothing.
+use native.Mathlib.Omega.{arith}
 use borrow.Author.Needs.{needs}
 use Rattle.niegluk.proofs.write_shape.Statement.{statement}
 use Rattle.niegluk.proofs.write_shape.Tie as tie
@@ -14,7 +15,8 @@ room c κs =
     let answer = c .before .before .before .before .before .before .check-file .ensures in
     let ok = c .before .before .before .before .before .before .before .before .enum-told .given .1 in
     let table = c .before .before .before .before .before .before .before .before .before .before .before .before .before .tabulate .ensures in
-    (lower-given table ok, shape-ready table ok _ answer size _ (c .before .before .if1 .left))
+    let room = c .before .before .if1 .left in
+    (lower-given table ok, shape-ready table ok _ answer size _ (omega arith))
 
 pub write-shape-spec : {M : Type 1} → statement M
 write-shape-spec =

@@ -114,9 +114,14 @@ module _ (t : ℕ) where
   abbrev write-tree-calls : write-tree-lts.Claims
   write-tree-calls = (write-unit-reads.Asked, write-unit-reads.Learnt, write-record-below, write-record.Post, after-part-reads.Asked, after-part-reads.Learnt, btree-split-index-reads.Asked, btree-split-index-reads.Learnt, write-tree-below, write-tree.Post)
 
+  abbrev block-start : write-block-lts.Else1 write-block-calls write-block-at write-block.Post → write-block-lts.Start write-block-calls write-block-at write-block.Post
+  block-start c = c .before .before .before .before .before
+
   -- a block with elements: the tag and their tree
-  elements : (c : write-block-lts.Else1 write-block-calls write-block-at write-block.Post) → Stem 2 (block-told ((c .before .before .before .before .before) .args .level) ((c .before .before .before .before .before) .args .ty .now) ((c .before .before .before .before .before) .args .val .now) ((c .before .before .before .before .before) .args .n) ((c .before .before .before .before .before) .args .at) ((c .before .before .before .before .before) .args .v)) (balanced Copies ((c .before .before .before .before .before) .args .level) ((c .before .before .before .before .before) .args .ty .now) ((c .before .before .before .before .before) .args .val .now) ((c .before .before .before .before .before) .args .n) ((c .before .before .before .before .before) .args .at) ((c .before .before .before .before .before) .args .v)) ((c .before .before .before .before .before) .args .out .now)
-  elements c = let h = c .if1 .left in block-stem _ _ _ _ _ _ _ (c .before .before .before .before .before .pre .1 .1 .1) (omega arith)
+  elements : (c : write-block-lts.Else1 write-block-calls write-block-at write-block.Post)
+      → Stem 2 (block-told (block-start c .args .level) (block-start c .args .ty .now) (block-start c .args .val .now) (block-start c .args .n) (block-start c .args .at) (block-start c .args .v))
+      (balanced Copies (block-start c .args .level) (block-start c .args .ty .now) (block-start c .args .val .now) (block-start c .args .n) (block-start c .args .at) (block-start c .args .v)) (block-start c .args .out .now)
+  elements c = let h = c .if1 .left in block-stem _ _ _ _ _ _ _ (block-start c .pre .1 .1 .1) (omega arith)
 
   write-block-slice-write-out-2 : write-block-lts.Need-slice-write-out-2 write-block-calls write-block-at write-block.Post
   write-block-slice-write-out-2 c =
@@ -164,9 +169,12 @@ module _ (t : ℕ) where
   blocks : (c : write-list-lts.After-share write-list-calls write-list-at write-list.Post) → Pair (list-told (list-start c) (list-start c .args .bound) (list-start c .args .m) (list-start c .args .v)) (block-here (list-start c) (c .share .result)) (list-told (list-start c) (c .before .before .before .half .given .0 .0) (list-start c .args .m - c .share .result)) (list-start c .args .out .now)
   blocks c = pair-of (halved c .same) (list-start c .pre .1 .1 .1)
 
+  abbrev two-start : write-list-lts.After-enum-told write-list-calls write-list-at write-list.Post → write-list-lts.Start write-list-calls write-list-at write-list.Post
+  two-start c = c .before .before .before .before .before .before .before
+
   -- with the bound 2 it is a block
-  block-is : (c : write-list-lts.After-enum-told write-list-calls write-list-at write-list.Post) → list-told (c .before .before .before .before .before .before .before) ((c .before .before .before .before .before .before .before) .args .bound) ((c .before .before .before .before .before .before .before) .args .m) ((c .before .before .before .before .before .before .before) .args .v) ≡ block-here (c .before .before .before .before .before .before .before) ((c .before .before .before .before .before .before .before) .args .m)
-  block-is c = listed-two _ _ _ _ _ _ (c .before .before .before .before .before .before .before .pre .1 .0 .0) (sym (c .enum-told .given .1) ∙ c .before .before .checked-div2 .ensures)
+  block-is : (c : write-list-lts.After-enum-told write-list-calls write-list-at write-list.Post) → list-told (two-start c) (two-start c .args .bound) (two-start c .args .m) (two-start c .args .v) ≡ block-here (two-start c) (two-start c .args .m)
+  block-is c = listed-two _ _ _ _ _ _ (two-start c .pre .1 .0 .0) (sym (c .enum-told .given .1) ∙ c .before .before .checked-div2 .ensures)
 
   write-list-write-block-requires : write-list-lts.Need-write-block-requires write-list-calls write-list-at write-list.Post
   write-list-write-block-requires c κs =

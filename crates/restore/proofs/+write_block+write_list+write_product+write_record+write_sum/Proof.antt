@@ -1,0 +1,473 @@
+-- The writers of a record, a product, a sum, a block and a list, which call each other. Each writes what stands at its place:
+--     a record     what its form says (`formed`): behind its own record the product, the sum or the list of what stands below it
+--     a product    of two parts or more the left side, and the right side into the rest behind it (`product-sides`)
+--     a sum        the side that a left or a right leads to (`sum-left`, `sum-right`)
+--     a list       likewise a block of half the bound, and the list with that bound (`list-more`)
+-- A call goes a level down, or stays on its level with fewer parts or half the bound: a level weighs more than all counts and bounds.
+-- Assumes nothing.
+use mathlib.Core.Path.{_≡_, refl, sym, ap, _∙_}
+use mathlib.Core.List.{List}
+use Prim.Native.Nat.{ℕ, _+_, _-_, _*_, _^_, _<_}
+use native.Mathlib.Omega.{arith}
+use borrow.Author.Needs.{needs}
+use borrow.Fn.Kinds.{In}
+use borrow.Fn.PlainCycle.{Measures, is, falls, and}
+use Rattle.structural.specs.Laws.Bounds.{bound-small}
+use Rattle.told.specs.Laws.Rows.{given-copies}
+use Rattle.record.specs.Marks.{mark-of}
+use Rattle.record.specs.Trees.{product, sum, elements}
+use Rattle.restore.specs.Forms.{made-at, standing}
+use Rattle.restore.specs.Laws.Formed.{BitGiven, IntegerGiven, ProductGiven, SumGiven, ListGiven, PayloadGiven, as-nothing, as-bit, as-integer, as-product, as-sum, as-list, as-payload}
+use Rattle.restore.specs.Laws.Lists.{Halves}
+use Rattle.restore.specs.Laws.Sums.{sum-less, elements-less}
+use Rattle.restore.specs.Laws.Writing.{lent-length}
+use Rattle.restore.proofs.Steps.{level-some, next-fits, stands-inside, Shares, shares, skip-none, skip-copy, skip-type, skip-both, one-given, left-given, right-given, given-hops, hopped-given, none-found, none-placed, one-ready, one-placed, parts-fit, left-ready, left-fits, right-ready, sides-placed, sides-small, ready-as, placed-as, placed-length, numbered-length, only-ready, only-placed, choice-inside, choice-fits, first-ready, first-placed, others-ready, others-placed, block-starts, block-fits, empty-fits, empty-placed, full-ready, full-placed, two-ready, two-placed, halves, list-fits, block-ready, block-ends, list-ready, list-placed, list-small, count-small, Under, under, under-start, under-ready, under-back, under-small, under-placed, UnderNumbered, under-numbered, numbered-start, numbered-ready, numbered-is, numbered-back, numbered-small, numbered-placed, bit-room, side-fits, bit-marks, bit-done, integer-found, integer-room, integer-marks, integer-done}
+use Rattle.restore.proofs.write_block.Reads as write-block
+use Rattle.restore.proofs.write_block.Kinds as write-block-kinds
+use Rattle.restore.proofs.+write_block+write_list+write_product+write_record+write_sum.Lts-write_block as write-block-lts
+use Rattle.restore.proofs.write_list.Reads as write-list
+use Rattle.restore.proofs.write_list.Kinds as write-list-kinds
+use Rattle.restore.proofs.+write_block+write_list+write_product+write_record+write_sum.Lts-write_list as write-list-lts
+use Rattle.restore.proofs.write_product.Reads as write-product
+use Rattle.restore.proofs.write_product.Kinds as write-product-kinds
+use Rattle.restore.proofs.+write_block+write_list+write_product+write_record+write_sum.Lts-write_product as write-product-lts
+use Rattle.restore.proofs.write_record.Reads as write-record
+use Rattle.restore.proofs.write_record.Kinds as write-record-kinds
+use Rattle.restore.proofs.+write_block+write_list+write_product+write_record+write_sum.Lts-write_record as write-record-lts
+use Rattle.restore.proofs.write_sum.Reads as write-sum
+use Rattle.restore.proofs.write_sum.Kinds as write-sum-kinds
+use Rattle.restore.proofs.+write_block+write_list+write_product+write_record+write_sum.Lts-write_sum as write-sum-lts
+use Rattle.array.proofs.btree_split_index.Reads as btree-split-index-reads
+use Rattle.num.proofs.NonZeroPow2Usize.checked_div2.Reads as checked-div2-reads
+use Rattle.num.proofs.NonZeroPow2Usize.get.Reads as get-reads
+use Rattle.record.proofs.write_mark.Reads as write-mark-reads
+use Rattle.record.proofs.form_of.Reads as form-of-reads
+use Rattle.restore.proofs.pass.Reads as pass-reads
+use Rattle.restore.proofs.write_integer.Reads as write-integer-reads
+use Rattle.told.proofs.hop.Reads as hop-reads
+use Rattle.types.proofs.head_at.Reads as head-at-reads
+use Rattle.restore.proofs.+write_block+write_list+write_product+write_record+write_sum.{statement}
+use Rattle.restore.proofs.+write_block+write_list+write_product+write_record+write_sum.Tie.{close}
+
+ruleset steps = (level-some, next-fits, stands-inside, given-copies, skip-none, skip-copy, skip-type, one-given, none-found, none-placed, one-ready, one-placed, block-starts, block-fits, empty-fits, empty-placed, full-ready, full-placed, placed-length, needs)
+
+abbrev μ-write-block : Measures 4 write-block-kinds.ps ℕ
+μ-write-block κs a = a .1 .1 .1 .0 * 2 ^ 17 + a .1 .1 .1 .1 .0 + 2
+
+abbrev μ-write-list : Measures 4 write-list-kinds.ps ℕ
+μ-write-list κs a = a .1 .1 .1 .0 * 2 ^ 17 + a .1 .1 .1 .1 .0 .0 + 4
+
+abbrev μ-write-product : Measures 4 write-product-kinds.ps ℕ
+μ-write-product κs a = a .1 .1 .1 .0 * 2 ^ 17 + a .1 .1 .1 .1 .0 + 1
+
+abbrev μ-write-record : Measures 4 write-record-kinds.ps ℕ
+μ-write-record κs a = a .1 .1 .1 .0 * 2 ^ 17
+
+abbrev μ-write-sum : Measures 4 write-sum-kinds.ps ℕ
+μ-write-sum κs a = a .1 .1 .1 .0 * 2 ^ 17 + a .1 .1 .1 .1 .0 + 1
+
+module _ (t : ℕ) where
+  abbrev write-block-at : In 4 write-block-kinds.ps
+  write-block-at = and 4 write-block-kinds.ps (is 4 write-block-kinds.ps μ-write-block t) write-block.Pre
+
+  abbrev write-block-below : In 4 write-block-kinds.ps
+  write-block-below = and 4 write-block-kinds.ps (falls 4 write-block-kinds.ps _<_ μ-write-block t) write-block.Pre
+
+  abbrev write-list-at : In 4 write-list-kinds.ps
+  write-list-at = and 4 write-list-kinds.ps (is 4 write-list-kinds.ps μ-write-list t) write-list.Pre
+
+  abbrev write-list-below : In 4 write-list-kinds.ps
+  write-list-below = and 4 write-list-kinds.ps (falls 4 write-list-kinds.ps _<_ μ-write-list t) write-list.Pre
+
+  abbrev write-product-at : In 4 write-product-kinds.ps
+  write-product-at = and 4 write-product-kinds.ps (is 4 write-product-kinds.ps μ-write-product t) write-product.Pre
+
+  abbrev write-product-below : In 4 write-product-kinds.ps
+  write-product-below = and 4 write-product-kinds.ps (falls 4 write-product-kinds.ps _<_ μ-write-product t) write-product.Pre
+
+  abbrev write-record-at : In 4 write-record-kinds.ps
+  write-record-at = and 4 write-record-kinds.ps (is 4 write-record-kinds.ps μ-write-record t) write-record.Pre
+
+  abbrev write-record-below : In 4 write-record-kinds.ps
+  write-record-below = and 4 write-record-kinds.ps (falls 4 write-record-kinds.ps _<_ μ-write-record t) write-record.Pre
+
+  abbrev write-sum-at : In 4 write-sum-kinds.ps
+  write-sum-at = and 4 write-sum-kinds.ps (is 4 write-sum-kinds.ps μ-write-sum t) write-sum.Pre
+
+  abbrev write-sum-below : In 4 write-sum-kinds.ps
+  write-sum-below = and 4 write-sum-kinds.ps (falls 4 write-sum-kinds.ps _<_ μ-write-sum t) write-sum.Pre
+
+  abbrev write-block-calls : write-block-lts.Claims
+  write-block-calls = (write-product-below, write-product.Post)
+
+  abbrev write-list-calls : write-list-lts.Claims
+  write-list-calls = (checked-div2-reads.Asked, checked-div2-reads.Learnt, write-block-below, write-block.Post, get-reads.Asked, get-reads.Learnt, write-list-below, write-list.Post)
+
+  abbrev write-product-calls : write-product-lts.Claims
+  write-product-calls = (pass-reads.Asked, pass-reads.Learnt, write-record-below, write-record.Post, btree-split-index-reads.Asked, btree-split-index-reads.Learnt, write-product-below, write-product.Post)
+
+  abbrev write-record-calls : write-record-lts.Claims
+  write-record-calls = (head-at-reads.Asked, head-at-reads.Learnt, form-of-reads.Asked, form-of-reads.Learnt, write-mark-reads.Asked, write-mark-reads.Learnt, write-integer-reads.Asked, write-integer-reads.Learnt, write-product-below, write-product.Post, write-sum-below, write-sum.Post, write-list-below, write-list.Post)
+
+  abbrev write-sum-calls : write-sum-lts.Claims
+  write-sum-calls = (write-record-below, write-record.Post, btree-split-index-reads.Asked, btree-split-index-reads.Learnt, write-sum-below, write-sum.Post, hop-reads.Asked, hop-reads.Learnt)
+
+  write-block-write-product-requires : write-block-lts.Need-write-product-requires write-block-calls write-block-at write-block.Post
+  write-block-write-product-requires c κs = let p = c .before .before .before .before .before .before .before .pre in (omega arith, (p .1 .0, (given-copies _ (p .1 .1 .0), full-ready _ _ _ _ _ _ _ (p .1 .1 .1) (c .before .if1 .left))))
+
+  write-block-same-length : write-block-lts.Need-same-length write-block-calls write-block-at write-block.Post
+  write-block-same-length c = let p = c .before .before .before .before .before .before .before .before .before .before .pre in placed-length (full-ready _ _ _ _ _ _ _ (p .1 .1 .1) (c .before .before .before .before .if1 .left)) (c .before .before .write-product .ensures .1)
+
+  write-block-returns-2 : write-block-lts.Need-returns-2 write-block-calls write-block-at write-block.Post
+  write-block-returns-2 c = full-placed _ _ _ _ _ _ _ (c .before .before .before .before .before .before .before .before .before .before .pre .1 .1 .1) (c .before .before .before .before .if1 .left) (c .before .before .write-product .ensures .1)
+
+  abbrev list-start : write-list-lts.After-get write-list-calls write-list-at write-list.Post → write-list-lts.Start write-list-calls write-list-at write-list.Post
+  list-start c = c .before .before .before .before .before .before .before .before .before
+
+  -- with the half of the bound
+  in-halves : (c : write-list-lts.After-get write-list-calls write-list-at write-list.Post) → Halves (list-start c .args .shape .now) (list-start c .args .level) (list-start c .args .ty .now) (list-start c .args .bound) (c .before .before .half .given .0 .0) (list-start c .args .at) (list-start c .args .q) (list-start c .pre .1 .1 .1 .number) (list-start c .pre .1 .1 .1 .recs) (list-start c .pre .1 .1 .1 .end)
+  in-halves c = halves _ _ _ _ _ _ _ (list-start c .pre .1 .0) (list-start c .pre .1 .1 .1) (c .before .before .before .before .checked-div2 .ensures) (c .before .before .half .given .1)
+
+  write-list-write-block-requires : write-list-lts.Need-write-block-requires write-list-calls write-list-at write-list.Post
+  write-list-write-block-requires c κs = let p = c .before .before .before .before .before .before .before .before .pre in (omega arith, (omega arith, (p .1 .1 .0, two-ready _ _ _ _ _ _ _ (p .1 .0) (p .1 .1 .1) (c .before .before .before .checked-div2 .ensures) (c .before .enum-told .given .1))))
+
+  write-list-add-write-block : write-list-lts.Need-add-write-block write-list-calls write-list-at write-list.Post
+  write-list-add-write-block c = list-fits _ _ _ _ _ _ _ (list-start (c) .pre .1 .0) (list-start (c) .pre .1 .1 .1) (c .before .before .before .before .checked-div2 .ensures) (c .before .before .half .given .1) (search needs)
+
+  write-list-write-block-requires-2 : write-list-lts.Need-write-block-requires-2 write-list-calls write-list-at write-list.Post
+  write-list-write-block-requires-2 c κs =
+      let h = in-halves (c .before) in
+      let l = h .less in
+      let m = bound-small (h .fair) in
+      let e = c .before .get .ensures in
+      (omega arith, (omega arith, (list-start (c .before) .pre .1 .1 .0, block-ready _ _ _ _ _ _ _ (list-start (c .before) .pre .1 .0) (list-start (c .before) .pre .1 .1 .1) (c .before .before .before .before .before .checked-div2 .ensures) (c .before .before .before .half .given .1) (c .before .get .ensures))))
+
+  write-list-sub-write-list : write-list-lts.Need-sub-write-list write-list-calls write-list-at write-list.Post
+  write-list-sub-write-list c = block-ends _ _ _ _ _ _ _ (list-start (c .before .before .before .before) .pre .1 .0) (list-start (c .before .before .before .before) .pre .1 .1 .1) (c .before .before .before .before .before .before .before .before .checked-div2 .ensures) (c .before .before .before .before .before .before .half .given .1) (c .before .before .before .before .get .ensures) (c .before .before .write-block2 .ensures)
+
+  write-list-part-write-list-start : write-list-lts.Need-part-write-list-start write-list-calls write-list-at write-list.Post
+  write-list-part-write-list-start c = block-ends _ _ _ _ _ _ _ (list-start (c .before .before .before .before) .pre .1 .0) (list-start (c .before .before .before .before) .pre .1 .1 .1) (c .before .before .before .before .before .before .before .before .checked-div2 .ensures) (c .before .before .before .before .before .before .half .given .1) (c .before .before .before .before .get .ensures) (c .before .before .write-block2 .ensures)
+
+  write-list-write-list-requires : write-list-lts.Need-write-list-requires write-list-calls write-list-at write-list.Post
+  write-list-write-list-requires c κs =
+      let h = in-halves (c .before .before .before .before .before) in
+      let l = h .less in
+      (omega arith, (h .fair, (list-start (c .before .before .before .before .before) .pre .1 .1 .0, list-ready _ _ _ _ _ _ _ (list-start (c .before .before .before .before .before) .pre .1 .0) (list-start (c .before .before .before .before .before) .pre .1 .1 .1) (c .before .before .before .before .before .before .before .before .before .checked-div2 .ensures) (c .before .before .before .before .before .before .before .half .given .1) (c .before .before .before .before .before .get .ensures) (c .before .before .before .write-block2 .ensures))))
+
+  write-list-add-t18 : write-list-lts.Need-add-t18 write-list-calls write-list-at write-list.Post
+  write-list-add-t18 c = omega (arith, count-small _ _ _ _ _ _ _ (list-start (c .before .before .before .before .before .before .before .before .before .before) .pre .1 .0) (list-start (c .before .before .before .before .before .before .before .before .before .before) .pre .1 .1 .1) (c .before .before .before .before .before .before .before .before .before .before .before .before .before .before .checked-div2 .ensures) (c .before .before .before .before .before .before .before .before .before .before .before .before .half .given .1) (c .before .before .before .before .before .before .before .before .before .before .get .ensures) (c .before .before .before .before .before .before .before .before .write-block2 .ensures) (c .before .before .before .before .write-list .ensures), bound-small (list-start (c .before .before .before .before .before .before .before .before .before .before) .pre .1 .0))
+
+  write-list-add-t17 : write-list-lts.Need-add-t17 write-list-calls write-list-at write-list.Post
+  write-list-add-t17 c = let g = c .before .before .before .before .before .before .before .before .before .before .before .before .before .before .before .before .before .before .before .before .good in omega (arith, list-small _ _ _ _ _ _ _ (list-start (c .before .before .before .before .before .before .before .before .before .before .before) .pre .1 .0) (list-start (c .before .before .before .before .before .before .before .before .before .before .before) .pre .1 .1 .1) (c .before .before .before .before .before .before .before .before .before .before .before .before .before .before .before .checked-div2 .ensures) (c .before .before .before .before .before .before .before .before .before .before .before .before .before .half .given .1) (c .before .before .before .before .before .before .before .before .before .before .before .get .ensures) (c .before .before .before .before .before .before .before .before .before .write-block2 .ensures) (c .before .before .before .before .before .write-list .ensures))
+
+  write-list-same-length : write-list-lts.Need-same-length write-list-calls write-list-at write-list.Post
+  write-list-same-length c = numbered-length (two-ready _ _ _ _ _ _ _ (c .before .before .before .before .before .before .before .before .before .before .before .pre .1 .0) (c .before .before .before .before .before .before .before .before .before .before .before .pre .1 .1 .1) (c .before .before .before .before .before .before .checked-div2 .ensures) (c .before .before .before .before .enum-told .given .1)) (c .before .before .write-block .ensures)
+
+  write-list-returns : write-list-lts.Need-returns write-list-calls write-list-at write-list.Post
+  write-list-returns c = two-placed _ _ _ _ _ _ _ (c .before .before .before .before .before .before .before .before .before .before .before .pre .1 .0) (c .before .before .before .before .before .before .before .before .before .before .before .pre .1 .1 .1) (c .before .before .before .before .before .before .checked-div2 .ensures) (c .before .before .before .before .enum-told .given .1) (c .before .before .write-block .ensures)
+
+  write-list-same-length-2 : write-list-lts.Need-same-length-2 write-list-calls write-list-at write-list.Post
+  write-list-same-length-2 c = numbered-length (c .before .before .before .before .before .before .before .before .before .before .before .before .before .before .before .before .before .before .before .before .pre .1 .1 .1) (list-placed _ _ _ _ _ _ _ (list-start (c .before .before .before .before .before .before .before .before .before .before .before) .pre .1 .0) (list-start (c .before .before .before .before .before .before .before .before .before .before .before) .pre .1 .1 .1) (c .before .before .before .before .before .before .before .before .before .before .before .before .before .before .before .checked-div2 .ensures) (c .before .before .before .before .before .before .before .before .before .before .before .before .before .half .given .1) (c .before .before .before .before .before .before .before .before .before .before .before .get .ensures) (c .before .before .before .before .before .before .before .before .before .write-block2 .ensures) (c .before .before .before .before .before .write-list .ensures))
+
+  write-list-returns-2 : write-list-lts.Need-returns-2 write-list-calls write-list-at write-list.Post
+  write-list-returns-2 c = list-placed _ _ _ _ _ _ _ (list-start (c .before .before .before .before .before .before .before .before .before .before .before) .pre .1 .0) (list-start (c .before .before .before .before .before .before .before .before .before .before .before) .pre .1 .1 .1) (c .before .before .before .before .before .before .before .before .before .before .before .before .before .before .before .checked-div2 .ensures) (c .before .before .before .before .before .before .before .before .before .before .before .before .before .half .given .1) (c .before .before .before .before .before .before .before .before .before .before .before .get .ensures) (c .before .before .before .before .before .before .before .before .before .write-block2 .ensures) (c .before .before .before .before .before .write-list .ensures)
+
+  abbrev product-start : write-product-lts.After-btree-split-index write-product-calls write-product-at write-product.Post → write-product-lts.Start write-product-calls write-product-at write-product.Post
+  product-start c = c .before .before .before .before .before .before .before
+
+  parts : (c : write-product-lts.After-btree-split-index write-product-calls write-product-at write-product.Post) → Shares (product-start c .args .n) (c .btree-split-index .result)
+  parts c = let l = c .before .if2 .left in let m = c .before .before .if1 .left in shares (c .btree-split-index .ensures) (omega arith)
+
+  write-product-mul-t21 : write-product-lts.Need-mul-t21 write-product-calls write-product-at write-product.Post
+  write-product-mul-t21 c = omega (arith, stands-inside (one-given (c .before .before .before .before .before .before .before .before .before .before .before .before .pre .1 .1 .0) (c .before .before .before .before .before .before .if2 .taken)))
+
+  write-product-shared-slice-read-t23 : write-product-lts.Need-shared-slice-read-t23 write-product-calls write-product-at write-product.Post
+  write-product-shared-slice-read-t23 c = stands-inside (one-given (c .before .before .before .before .before .before .before .before .before .before .before .before .before .pre .1 .1 .0) (c .before .before .before .before .before .before .before .if2 .taken))
+
+  write-product-sub-others : write-product-lts.Need-sub-others write-product-calls write-product-at write-product.Post
+  write-product-sub-others c = let l = parts c .less in omega arith
+
+  write-product-add-write-product : write-product-lts.Need-add-write-product write-product-calls write-product-at write-product.Post
+  write-product-add-write-product c = parts-fit _ _ _ _ _ _ _ _ (product-start (c) .pre .1 .1 .1) (parts (c)) (search needs)
+
+  write-product-write-product-requires : write-product-lts.Need-write-product-requires write-product-calls write-product-at write-product.Post
+  write-product-write-product-requires c κs = let p = c .before .before .before .before .before .before .before .before .pre in let s = parts (c .before) in let l = s .less in (omega arith, (omega arith, (left-given (p .1 .1 .0) s, left-ready _ _ _ _ _ _ _ _ (product-start (c .before) .pre .1 .1 .1) (parts (c .before)))))
+
+  write-product-sub-write-product : write-product-lts.Need-sub-write-product write-product-calls write-product-at write-product.Post
+  write-product-sub-write-product c = left-fits _ _ _ _ _ _ _ _ (product-start (c .before .before .before .before) .pre .1 .1 .1) (parts (c .before .before .before .before)) (c .before .before .write-product .ensures .1)
+
+  write-product-part-write-product-start : write-product-lts.Need-part-write-product-start write-product-calls write-product-at write-product.Post
+  write-product-part-write-product-start c = left-fits _ _ _ _ _ _ _ _ (product-start (c .before .before .before .before) .pre .1 .1 .1) (parts (c .before .before .before .before)) (c .before .before .write-product .ensures .1)
+
+  write-product-write-product-requires-2 : write-product-lts.Need-write-product-requires-2 write-product-calls write-product-at write-product.Post
+  write-product-write-product-requires-2 c κs =
+      let p = c .before .before .before .before .before .before .before .before .before .before .before .before .pre in
+      let s = parts (c .before .before .before .before .before) in
+      let v = c .before .before .before .write-product .ensures in
+      let l = s .less in
+      let m = s .some in
+      (omega arith, (omega arith, (right-given (p .1 .1 .0) s (v .0), right-ready _ _ _ _ _ _ _ _ (product-start (c .before .before .before .before .before) .pre .1 .1 .1) (parts (c .before .before .before .before .before)) (v .1) (v .0))))
+
+  write-product-add-t24 : write-product-lts.Need-add-t24 write-product-calls write-product-at write-product.Post
+  write-product-add-t24 c = let g = c .before .before .before .before .before .before .before .before .before .before .before .before .before .before .before .before .good in let v = c .before .before .before .before .before .before .before .write-product .ensures in omega (arith, sides-small _ _ _ _ _ _ _ _ (product-start (c .before .before .before .before .before .before .before .before .before) .pre .1 .1 .1) (parts (c .before .before .before .before .before .before .before .before .before)) (v .1) (v .0) (c .before .before .before .write-product2 .ensures .1))
+
+  write-product-same-length-3 : write-product-lts.Need-same-length-3 write-product-calls write-product-at write-product.Post
+  write-product-same-length-3 c = let v = c .before .before .before .before .before .before .before .write-product .ensures in placed-length (c .before .before .before .before .before .before .before .before .before .before .before .before .before .before .before .before .pre .1 .1 .1) (sides-placed _ _ _ _ _ _ _ _ (product-start (c .before .before .before .before .before .before .before .before .before) .pre .1 .1 .1) (parts (c .before .before .before .before .before .before .before .before .before)) (v .1) (v .0) (c .before .before .before .write-product2 .ensures .1))
+
+  write-product-returns-4 : write-product-lts.Need-returns-4 write-product-calls write-product-at write-product.Post
+  write-product-returns-4 c =
+      let v = c .before .before .before .before .before .before .before .write-product .ensures in
+      let u = c .before .before .before .write-product2 .ensures in
+      (skip-both _ _ _ (parts (c .before .before .before .before .before .before .before .before .before)) _ (v .0) (u .0), sides-placed _ _ _ _ _ _ _ _ (product-start (c .before .before .before .before .before .before .before .before .before) .pre .1 .1 .1) (parts (c .before .before .before .before .before .before .before .before .before)) (v .1) (v .0) (u .1))
+
+  abbrev record-start : write-record-lts.After-form-of write-record-calls write-record-at write-record.Post → write-record-lts.Start write-record-calls write-record-at write-record.Post
+  record-start c = c .before .before .before .before .before .before
+
+  -- what the record's form says
+  bit-here : (c : write-record-lts.After-enum-told2 write-record-calls write-record-at write-record.Post) → BitGiven (record-start (c .before .before) .args .level) (record-start (c .before .before) .args .ty .now) (record-start (c .before .before) .args .shape .now) (record-start (c .before .before) .args .at) (record-start (c .before .before) .args .q)
+  bit-here c = as-bit (record-start (c .before .before) .pre .1 .0) (record-start (c .before .before) .pre .1 .1 .there) (c .before .before .before .head-at .ensures .0) (c .before .before .before .head-at .ensures .1) (c .before .before .form-of .ensures) (c .enum-told2 .given .1)
+
+  integer-here : (c : write-record-lts.After-w write-record-calls write-record-at write-record.Post) → IntegerGiven (c .w .given .0 .0) (record-start (c .before .before) .args .level) (record-start (c .before .before) .args .ty .now) (record-start (c .before .before) .args .shape .now) (record-start (c .before .before) .args .at) (record-start (c .before .before) .args .q)
+  integer-here c = as-integer (record-start (c .before .before) .pre .1 .0) (record-start (c .before .before) .pre .1 .1 .there) (c .before .before .before .head-at .ensures .0) (c .before .before .before .head-at .ensures .1) (c .before .before .form-of .ensures) (c .w .given .1)
+
+  product-here : (c : write-record-lts.After-parts write-record-calls write-record-at write-record.Post) → ProductGiven (c .before .before .before .head-at .result) (c .parts .given .0 .0) (c .parts .given .0 .1 .0) (record-start (c .before .before) .args .level) (record-start (c .before .before) .args .ty .now) (record-start (c .before .before) .args .ends .now) (record-start (c .before .before) .args .shape .now) (record-start (c .before .before) .args .at) (record-start (c .before .before) .args .q)
+  product-here c = as-product (record-start (c .before .before) .pre .1 .0) (record-start (c .before .before) .pre .1 .1 .there) (c .before .before .before .head-at .ensures .0) (c .before .before .before .head-at .ensures .1) (c .before .before .form-of .ensures) (c .parts .given .1)
+
+  sum-here : (c : write-record-lts.After-n write-record-calls write-record-at write-record.Post) → SumGiven (c .before .before .before .head-at .result) (c .n .given .0 .0) (record-start (c .before .before) .args .level) (record-start (c .before .before) .args .ty .now) (record-start (c .before .before) .args .ends .now) (record-start (c .before .before) .args .shape .now) (record-start (c .before .before) .args .at) (record-start (c .before .before) .args .q)
+  sum-here c = as-sum (record-start (c .before .before) .pre .1 .0) (record-start (c .before .before) .pre .1 .1 .there) (c .before .before .before .head-at .ensures .0) (c .before .before .before .head-at .ensures .1) (c .before .before .form-of .ensures) (c .n .given .1)
+
+  list-here : (c : write-record-lts.After-bound write-record-calls write-record-at write-record.Post) → ListGiven (c .before .before .before .head-at .result) (c .bound .given .0 .0) (record-start (c .before .before) .args .level) (record-start (c .before .before) .args .ty .now) (record-start (c .before .before) .args .ends .now) (record-start (c .before .before) .args .shape .now) (record-start (c .before .before) .args .at) (record-start (c .before .before) .args .q)
+  list-here c = as-list (record-start (c .before .before) .pre .1 .0) (record-start (c .before .before) .pre .1 .1 .there) (c .before .before .before .head-at .ensures .0) (c .before .before .before .head-at .ensures .1) (c .before .before .form-of .ensures) (c .bound .given .1)
+
+  payload-here : (c : write-record-lts.After-n2 write-record-calls write-record-at write-record.Post) → PayloadGiven (c .n2 .given .0 .0) (record-start (c .before .before) .args .level) (record-start (c .before .before) .args .ty .now) (record-start (c .before .before) .args .ends .now) (record-start (c .before .before) .args .shape .now) (record-start (c .before .before) .args .at) (record-start (c .before .before) .args .q)
+  payload-here c = as-payload (record-start (c .before .before) .pre .1 .0) (record-start (c .before .before) .pre .1 .1 .there) (c .before .before .before .head-at .ensures .0) (c .before .before .before .head-at .ensures .1) (c .before .before .form-of .ensures) (c .n2 .given .1)
+
+  -- its own record and what stands below it
+  product-under : (c : write-record-lts.After-parts write-record-calls write-record-at write-record.Post) → Under (mark-of (c .before .before .before .head-at .result) (c .parts .given .0 .1 .0)) (made-at (record-start (c .before .before) .args .shape .now) (product (c .parts .given .0 .0) (record-start (c .before .before) .args .level - 1) (record-start (c .before .before) .args .ty .now) (c .parts .given .0 .1 .0) (record-start (c .before .before) .args .at + 1)) (record-start (c .before .before) .args .q)) (standing (record-start (c .before .before) .args .shape .now) (record-start (c .before .before) .args .level) (record-start (c .before .before) .args .ty .now) (record-start (c .before .before) .args .at) (record-start (c .before .before) .args .q)) (record-start (c .before .before) .args .out .now)
+  product-under c = under (record-start (c .before .before) .pre .1 .1) (product-here c .same)
+
+  sum-under : (c : write-record-lts.After-n write-record-calls write-record-at write-record.Post) → UnderNumbered (mark-of (c .before .before .before .head-at .result)) (made-at (record-start (c .before .before) .args .shape .now) (sum (record-start (c .before .before) .args .level - 1) (record-start (c .before .before) .args .ty .now) (record-start (c .before .before) .args .ends .now) (c .n .given .0 .0) (record-start (c .before .before) .args .at + 1)) (record-start (c .before .before) .args .q)) (standing (record-start (c .before .before) .args .shape .now) (record-start (c .before .before) .args .level) (record-start (c .before .before) .args .ty .now) (record-start (c .before .before) .args .at) (record-start (c .before .before) .args .q)) (record-start (c .before .before) .args .out .now)
+  sum-under c = under-numbered (record-start (c .before .before) .pre .1 .1) (sum-here c .same)
+
+  list-under : (c : write-record-lts.After-bound write-record-calls write-record-at write-record.Post) → UnderNumbered (mark-of (c .before .before .before .head-at .result)) (made-at (record-start (c .before .before) .args .shape .now) (elements (record-start (c .before .before) .args .level - 1) (record-start (c .before .before) .args .ty .now) (c .bound .given .0 .0) (record-start (c .before .before) .args .at + 1)) (record-start (c .before .before) .args .q)) (standing (record-start (c .before .before) .args .shape .now) (record-start (c .before .before) .args .level) (record-start (c .before .before) .args .ty .now) (record-start (c .before .before) .args .at) (record-start (c .before .before) .args .q)) (record-start (c .before .before) .args .out .now)
+  list-under c = under-numbered (record-start (c .before .before) .pre .1 .1) (list-here c .same)
+
+  write-record-shared-slice-read-side : write-record-lts.Need-shared-slice-read-side write-record-calls write-record-at write-record.Post
+  write-record-shared-slice-read-side c = let l = bit-here (c .before) .there in omega arith
+
+  write-record-cast-side : write-record-lts.Need-cast-side write-record-calls write-record-at write-record.Post
+  write-record-cast-side c = side-fits _ (bit-here (c .before) .side)
+
+  write-record-sub-write-mark : write-record-lts.Need-sub-write-mark write-record-calls write-record-at write-record.Post
+  write-record-sub-write-mark c = bit-here (c .before .before) .some-side
+
+  write-record-write-mark-requires : write-record-lts.Need-write-mark-requires write-record-calls write-record-at write-record.Post
+  write-record-write-mark-requires c κs = (bit-room (c .before .before .before .before .before .head-at .result) _ (c .before .before .before .before .before .before .before .before .before .before .pre .1 .1) (c .before .before .before .before .form-of .ensures) (c .before .before .enum-told2 .given .1) (bit-here (c .before .before)), (c .before .before .before .before .before .head-at .ensures .1, bit-marks (c .before .before .before .before .before .head-at .result) _ (c .before .before .before .before .before .before .before .before .before .before .pre .1 .1) (c .before .before .before .before .form-of .ensures) (c .before .before .enum-told2 .given .1) (bit-here (c .before .before))))
+
+  write-record-add-t27 : write-record-lts.Need-add-t27 write-record-calls write-record-at write-record.Post
+  write-record-add-t27 c = let l = bit-here (c .before .before .before .before .before) .there in let g = c .before .before .before .before .before .before .before .before .before .before .before .before .before .good in omega arith
+
+  write-record-write-mark-requires-2 : write-record-lts.Need-write-mark-requires-2 write-record-calls write-record-at write-record.Post
+  write-record-write-mark-requires-2 c κs = (integer-room (c .before .before .before .before .before .head-at .result) _ (c .before .before .before .before .before .before .before .before .before .before .pre .1 .1) (c .before .before .before .before .form-of .ensures) (c .before .before .w .given .1) (integer-here (c .before .before)), (c .before .before .before .before .before .head-at .ensures .1, integer-marks (c .before .before .before .before .before .head-at .result) _ (c .before .before .before .before .before .before .before .before .before .before .pre .1 .1) (c .before .before .before .before .form-of .ensures) (c .before .before .w .given .1) (integer-here (c .before .before))))
+
+  write-record-sub-write-integer : write-record-lts.Need-sub-write-integer write-record-calls write-record-at write-record.Post
+  write-record-sub-write-integer c = omega arith
+
+  write-record-part-write-integer-start : write-record-lts.Need-part-write-integer-start write-record-calls write-record-at write-record.Post
+  write-record-part-write-integer-start c = omega arith
+
+  write-record-part-write-integer-end : write-record-lts.Need-part-write-integer-end write-record-calls write-record-at write-record.Post
+  write-record-part-write-integer-end c = let k = c .before .before .write-mark2 .kept in omega (arith, integer-room (c .before .before .before .before .before .before .before .before .head-at .result) _ (c .before .before .before .before .before .before .before .before .before .before .before .before .before .pre .1 .1) (c .before .before .before .before .before .before .before .form-of .ensures) (c .before .before .before .before .before .w .given .1) (integer-here (c .before .before .before .before .before)))
+
+  write-record-write-integer-requires : write-record-lts.Need-write-integer-requires write-record-calls write-record-at write-record.Post
+  write-record-write-integer-requires c κs =
+      let i = integer-here (c .before .before .before .before .before .before) in
+      let k = c .before .before .before .write-mark2 .kept in
+      ((i .some-bits, i .few, lent-length (c .before .before .before .write-mark2 .last .0) (omega (arith, integer-room (c .before .before .before .before .before .before .before .before .before .head-at .result) _ (c .before .before .before .before .before .before .before .before .before .before .before .before .before .before .pre .1 .1) (c .before .before .before .before .before .before .before .before .form-of .ensures) (c .before .before .before .before .before .before .w .given .1) (integer-here (c .before .before .before .before .before .before))))), integer-found (c .before .before .before .before .before .before .before .before .before .head-at .result) _ (c .before .before .before .before .before .before .before .before .before .before .before .before .before .before .pre .1 .1) (c .before .before .before .before .before .before .before .before .form-of .ensures) (c .before .before .before .before .before .before .w .given .1) (integer-here (c .before .before .before .before .before .before)))
+
+  write-record-sub-write-product-2 : write-record-lts.Need-sub-write-product-2 write-record-calls write-record-at write-record.Post
+  write-record-sub-write-product-2 c = under-start (product-under (c .before))
+
+  write-record-part-write-product-start : write-record-lts.Need-part-write-product-start write-record-calls write-record-at write-record.Post
+  write-record-part-write-product-start c = under-start (product-under (c .before))
+
+  write-record-write-product-requires : write-record-lts.Need-write-product-requires write-record-calls write-record-at write-record.Post
+  write-record-write-product-requires c κs =
+      let i = product-here (c .before .before) in
+      let l = level-some (c .before .before .before .before .before .before .before .before .before .before .pre .1 .0) in
+      let m = i .few in
+      (omega arith, (m, (i .given, under-ready (product-under (c .before .before)))))
+
+  write-record-write-mark-requires-3 : write-record-lts.Need-write-mark-requires-3 write-record-calls write-record-at write-record.Post
+  write-record-write-mark-requires-3 c κs = (under-back (product-under (c .before .before .before .before .before .before)) (c .before .before .before .write-product .ensures .1), (c .before .before .before .before .before .before .before .before .before .head-at .ensures .1, product-here (c .before .before .before .before .before .before) .marks))
+
+  write-record-add-t36 : write-record-lts.Need-add-t36 write-record-calls write-record-at write-record.Post
+  write-record-add-t36 c = let g = c .before .before .before .before .before .before .before .before .before .before .before .before .before .before .before .before .before .before .good in omega (arith, under-small (product-under (c .before .before .before .before .before .before .before .before .before .before)) (c .before .before .before .before .before .before .before .write-product .ensures .1))
+
+  write-record-sub-write-sum-2 : write-record-lts.Need-sub-write-sum-2 write-record-calls write-record-at write-record.Post
+  write-record-sub-write-sum-2 c = numbered-start (sum-under (c .before))
+
+  write-record-part-write-sum-start : write-record-lts.Need-part-write-sum-start write-record-calls write-record-at write-record.Post
+  write-record-part-write-sum-start c = numbered-start (sum-under (c .before))
+
+  write-record-write-sum-requires : write-record-lts.Need-write-sum-requires write-record-calls write-record-at write-record.Post
+  write-record-write-sum-requires c κs =
+      let i = sum-here (c .before .before) in
+      let l = level-some (c .before .before .before .before .before .before .before .before .before .before .pre .1 .0) in
+      let m = i .few in
+      (omega arith, ((i .some-choice, omega arith), (i .given, numbered-ready (sum-under (c .before .before)))))
+
+  write-record-write-mark-requires-4 : write-record-lts.Need-write-mark-requires-4 write-record-calls write-record-at write-record.Post
+  write-record-write-mark-requires-4 c κs =
+      let i = sum-here (c .before .before .before .before .before .before) in
+      let v = c .before .before .before .write-sum .ensures in
+      let e = numbered-is (sum-under (c .before .before .before .before .before .before)) v in
+      let l = sum-less _ _ _ _ _ _ _ _ (i .some-choice) (i .few) (sum-under (c .before .before .before .before .before .before) .below) in
+      (numbered-back (sum-under (c .before .before .before .before .before .before)) v, (c .before .before .before .before .before .before .before .before .before .head-at .ensures .1, i .marks _ (omega arith)))
+
+  write-record-add-t45 : write-record-lts.Need-add-t45 write-record-calls write-record-at write-record.Post
+  write-record-add-t45 c = let g = c .before .before .before .before .before .before .before .before .before .before .before .before .before .before .before .before .before .before .good in omega (arith, numbered-small (sum-under (c .before .before .before .before .before .before .before .before .before .before)) (c .before .before .before .before .before .before .before .write-sum .ensures))
+
+  write-record-sub-write-list-2 : write-record-lts.Need-sub-write-list-2 write-record-calls write-record-at write-record.Post
+  write-record-sub-write-list-2 c = numbered-start (list-under (c .before))
+
+  write-record-part-write-list-start : write-record-lts.Need-part-write-list-start write-record-calls write-record-at write-record.Post
+  write-record-part-write-list-start c = numbered-start (list-under (c .before))
+
+  write-record-write-list-requires : write-record-lts.Need-write-list-requires write-record-calls write-record-at write-record.Post
+  write-record-write-list-requires c κs =
+      let i = list-here (c .before .before) in
+      let l = level-some (c .before .before .before .before .before .before .before .before .before .before .pre .1 .0) in
+      let m = bound-small (i .fair) in
+      (omega arith, (i .fair, (i .given, numbered-ready (list-under (c .before .before)))))
+
+  write-record-write-mark-requires-5 : write-record-lts.Need-write-mark-requires-5 write-record-calls write-record-at write-record.Post
+  write-record-write-mark-requires-5 c κs =
+      let i = list-here (c .before .before .before .before .before .before) in
+      let v = c .before .before .before .write-list .ensures in
+      let e = numbered-is (list-under (c .before .before .before .before .before .before)) v in
+      let l = elements-less _ _ _ _ _ _ _ (i .fair) (list-under (c .before .before .before .before .before .before) .below) in
+      (numbered-back (list-under (c .before .before .before .before .before .before)) v, (c .before .before .before .before .before .before .before .before .before .head-at .ensures .1, i .marks _ (omega arith)))
+
+  write-record-add-t54 : write-record-lts.Need-add-t54 write-record-calls write-record-at write-record.Post
+  write-record-add-t54 c = let g = c .before .before .before .before .before .before .before .before .before .before .before .before .before .before .before .before .before .before .good in omega (arith, numbered-small (list-under (c .before .before .before .before .before .before .before .before .before .before)) (c .before .before .before .before .before .before .before .write-list .ensures))
+
+  write-record-write-product-requires-2 : write-record-lts.Need-write-product-requires-2 write-record-calls write-record-at write-record.Post
+  write-record-write-product-requires-2 c κs =
+      let i = payload-here (c .before .before) in
+      let l = level-some (c .before .before .before .before .before .before .before .before .before .before .pre .1 .0) in
+      let m = i .few in
+      (omega arith, (m, (i .given, ready-as (i .same) (c .before .before .before .before .before .before .before .before .before .before .pre .1 .1))))
+
+  write-record-returns : write-record-lts.Need-returns write-record-calls write-record-at write-record.Post
+  write-record-returns c = absurd (as-nothing _ _ (c .before .before .before .before .before .before .before .before .pre .1 .0) (c .before .before .before .before .before .before .before .before .pre .1 .1 .there) (c .before .before .before .head-at .ensures .0) (c .before .before .before .head-at .ensures .1) (c .before .before .form-of .ensures) (c .enum-told .given .1))
+
+  write-record-same-length : write-record-lts.Need-same-length write-record-calls write-record-at write-record.Post
+  write-record-same-length c = placed-length (c .before .before .before .before .before .before .before .before .before .before .before .before .before .pre .1 .1) (bit-done (c .before .before .before .before .before .before .before .before .head-at .result) _ (c .before .before .before .before .before .before .before .before .before .before .before .before .before .pre .1 .1) (c .before .before .before .before .before .before .before .form-of .ensures) (c .before .before .before .before .before .enum-told2 .given .1) (bit-here (c .before .before .before .before .before)) (c .before .before .write-mark .ensures))
+
+  write-record-returns-2 : write-record-lts.Need-returns-2 write-record-calls write-record-at write-record.Post
+  write-record-returns-2 c = bit-done (c .before .before .before .before .before .before .before .before .head-at .result) _ (c .before .before .before .before .before .before .before .before .before .before .before .before .before .pre .1 .1) (c .before .before .before .before .before .before .before .form-of .ensures) (c .before .before .before .before .before .enum-told2 .given .1) (bit-here (c .before .before .before .before .before)) (c .before .before .write-mark .ensures)
+
+  write-record-same-length-2 : write-record-lts.Need-same-length-2 write-record-calls write-record-at write-record.Post
+  write-record-same-length-2 c = placed-length (c .before .before .before .before .before .before .before .before .before .before .before .before .before .before .before .before .before .pre .1 .1) (integer-done (c .before .before .before .before .before .before .before .before .before .before .before .before .head-at .result) _ (c .before .before .before .before .before .before .before .before .before .before .before .before .before .before .before .before .before .pre .1 .1) (c .before .before .before .before .before .before .before .before .before .before .before .form-of .ensures) (c .before .before .before .before .before .before .before .before .before .w .given .1) (integer-here (c .before .before .before .before .before .before .before .before .before)) (c .before .before .before .before .before .before .write-mark2 .ensures) (c .before .before .write-integer .ensures))
+
+  write-record-returns-3 : write-record-lts.Need-returns-3 write-record-calls write-record-at write-record.Post
+  write-record-returns-3 c = integer-done (c .before .before .before .before .before .before .before .before .before .before .before .before .head-at .result) _ (c .before .before .before .before .before .before .before .before .before .before .before .before .before .before .before .before .before .pre .1 .1) (c .before .before .before .before .before .before .before .before .before .before .before .form-of .ensures) (c .before .before .before .before .before .before .before .before .before .w .given .1) (integer-here (c .before .before .before .before .before .before .before .before .before)) (c .before .before .before .before .before .before .write-mark2 .ensures) (c .before .before .write-integer .ensures)
+
+  write-record-same-length-3 : write-record-lts.Need-same-length-3 write-record-calls write-record-at write-record.Post
+  write-record-same-length-3 c = placed-length (c .before .before .before .before .before .before .before .before .before .before .before .before .before .before .before .before .before .before .pre .1 .1) (under-placed (product-under (c .before .before .before .before .before .before .before .before .before .before)) (c .before .before .before .before .before .before .before .write-product .ensures .1) (c .before .before .before .write-mark3 .ensures))
+
+  write-record-returns-4 : write-record-lts.Need-returns-4 write-record-calls write-record-at write-record.Post
+  write-record-returns-4 c = under-placed (product-under (c .before .before .before .before .before .before .before .before .before .before)) (c .before .before .before .before .before .before .before .write-product .ensures .1) (c .before .before .before .write-mark3 .ensures)
+
+  write-record-same-length-4 : write-record-lts.Need-same-length-4 write-record-calls write-record-at write-record.Post
+  write-record-same-length-4 c = placed-length (c .before .before .before .before .before .before .before .before .before .before .before .before .before .before .before .before .before .before .pre .1 .1) (numbered-placed (sum-under (c .before .before .before .before .before .before .before .before .before .before)) (c .before .before .before .before .before .before .before .write-sum .ensures) (c .before .before .before .write-mark4 .ensures))
+
+  write-record-returns-5 : write-record-lts.Need-returns-5 write-record-calls write-record-at write-record.Post
+  write-record-returns-5 c = numbered-placed (sum-under (c .before .before .before .before .before .before .before .before .before .before)) (c .before .before .before .before .before .before .before .write-sum .ensures) (c .before .before .before .write-mark4 .ensures)
+
+  write-record-same-length-5 : write-record-lts.Need-same-length-5 write-record-calls write-record-at write-record.Post
+  write-record-same-length-5 c = placed-length (c .before .before .before .before .before .before .before .before .before .before .before .before .before .before .before .before .before .before .pre .1 .1) (numbered-placed (list-under (c .before .before .before .before .before .before .before .before .before .before)) (c .before .before .before .before .before .before .before .write-list .ensures) (c .before .before .before .write-mark5 .ensures))
+
+  write-record-returns-6 : write-record-lts.Need-returns-6 write-record-calls write-record-at write-record.Post
+  write-record-returns-6 c = numbered-placed (list-under (c .before .before .before .before .before .before .before .before .before .before)) (c .before .before .before .before .before .before .before .write-list .ensures) (c .before .before .before .write-mark5 .ensures)
+
+  write-record-same-length-6 : write-record-lts.Need-same-length-6 write-record-calls write-record-at write-record.Post
+  write-record-same-length-6 c = placed-length (c .before .before .before .before .before .before .before .before .before .before .before .before .before .pre .1 .1) (placed-as (payload-here (c .before .before .before .before .before) .same) (c .before .before .write-product2 .ensures .1))
+
+  write-record-returns-7 : write-record-lts.Need-returns-7 write-record-calls write-record-at write-record.Post
+  write-record-returns-7 c = placed-as (payload-here (c .before .before .before .before .before) .same) (c .before .before .write-product2 .ensures .1)
+
+  abbrev sum-start : write-sum-lts.After-btree-split-index write-sum-calls write-sum-at write-sum.Post → write-sum-lts.Start write-sum-calls write-sum-at write-sum.Post
+  sum-start c = c .before .before .before .before .before .before
+
+  choices : (c : write-sum-lts.After-btree-split-index write-sum-calls write-sum-at write-sum.Post) → Shares (sum-start c .args .n) (c .btree-split-index .result)
+  choices c = let l = sum-start c .pre .1 .0 .0 in let m = c .before .if1 .left in shares (c .btree-split-index .ensures) (omega arith)
+
+  write-sum-write-record-requires : write-sum-lts.Need-write-record-requires write-sum-calls write-sum-at write-sum.Post
+  write-sum-write-record-requires c κs = let p = c .before .before .before .before .before .before .pre in (omega arith, (one-given (p .1 .1 .0) (c .before .if1 .taken), only-ready _ _ _ _ _ _ _ _ (p .1 .1 .1) (c .before .if1 .taken)))
+
+  write-sum-same-length : write-sum-lts.Need-same-length write-sum-calls write-sum-at write-sum.Post
+  write-sum-same-length c = let p = c .before .before .before .before .before .before .before .before .before .pre in placed-length (only-ready _ _ _ _ _ _ _ _ (p .1 .1 .1) (c .before .before .before .before .if1 .taken)) (c .before .before .write-record .ensures)
+
+  write-sum-returns : write-sum-lts.Need-returns write-sum-calls write-sum-at write-sum.Post
+  write-sum-returns c = let p = c .before .before .before .before .before .before .before .before .before .pre in only-placed _ _ _ _ _ _ _ _ (p .1 .1 .1) _ (c .before .before .before .before .if1 .taken) (c .before .before .write-record .ensures)
+
+  write-sum-btree-split-index-requires : write-sum-lts.Need-btree-split-index-requires write-sum-calls write-sum-at write-sum.Post
+  write-sum-btree-split-index-requires c κs = let p = c .before .before .before .before .before .pre .1 .0 in let l = p .0 in let m = p .1 in let n = c .if1 .left in (omega arith, omega arith)
+
+  write-sum-shared-slice-read-if2 : write-sum-lts.Need-shared-slice-read-if2 write-sum-calls write-sum-at write-sum.Post
+  write-sum-shared-slice-read-if2 c = choice-inside _ _ _ _ _ _ _ _ (sum-start (c .before) .pre .1 .1 .1) (choices (c .before))
+
+  write-sum-add-write-sum : write-sum-lts.Need-add-write-sum write-sum-calls write-sum-at write-sum.Post
+  write-sum-add-write-sum c = choice-fits _ _ _ _ _ _ _ _ (sum-start (c .before .before) .pre .1 .1 .1) (choices (c .before .before)) (search needs)
+
+  write-sum-write-sum-requires : write-sum-lts.Need-write-sum-requires write-sum-calls write-sum-at write-sum.Post
+  write-sum-write-sum-requires c κs =
+      let p = c .before .before .before .before .before .before .before .before .before .pre in
+      let s = choices (c .before .before .before) in
+      let l = s .less in
+      let i = p .1 .0 .1 in
+      (omega arith, ((s .some, omega arith), (left-given (p .1 .1 .0) s, first-ready _ _ _ _ _ _ _ _ (sum-start (c .before .before .before) .pre .1 .1 .1) (choices (c .before .before .before)) (c .before .if2 .taken))))
+
+  write-sum-same-length-2 : write-sum-lts.Need-same-length-2 write-sum-calls write-sum-at write-sum.Post
+  write-sum-same-length-2 c = numbered-length (first-ready _ _ _ _ _ _ _ _ (sum-start (c .before .before .before .before .before .before) .pre .1 .1 .1) (choices (c .before .before .before .before .before .before)) (c .before .before .before .before .if2 .taken)) (c .before .before .write-sum .ensures)
+
+  write-sum-returns-2 : write-sum-lts.Need-returns-2 write-sum-calls write-sum-at write-sum.Post
+  write-sum-returns-2 c = first-placed _ _ _ _ _ _ _ _ (sum-start (c .before .before .before .before .before .before) .pre .1 .1 .1) (choices (c .before .before .before .before .before .before)) (c .before .before .before .before .if2 .taken) (c .before .before .write-sum .ensures)
+
+  write-sum-sub-others : write-sum-lts.Need-sub-others write-sum-calls write-sum-at write-sum.Post
+  write-sum-sub-others c = let l = choices (c .before .before) .less in omega arith
+
+  write-sum-hop-requires : write-sum-lts.Need-hop-requires write-sum-calls write-sum-at write-sum.Post
+  write-sum-hop-requires c κs = given-hops (c .before .before .before .before .before .before .before .before .pre .1 .1 .0) (choices (c .before .before))
+
+  write-sum-add-write-sum-2 : write-sum-lts.Need-add-write-sum-2 write-sum-calls write-sum-at write-sum.Post
+  write-sum-add-write-sum-2 c = let l = choices (c .before .before .before) .less in let i = c .before .before .before .before .before .before .before .before .before .pre .1 .0 .1 in omega arith
+
+  write-sum-add-write-sum-3 : write-sum-lts.Need-add-write-sum-3 write-sum-calls write-sum-at write-sum.Post
+  write-sum-add-write-sum-3 c = choice-fits _ _ _ _ _ _ _ _ (sum-start (c .before .before .before) .pre .1 .1 .1) (choices (c .before .before .before)) (search needs)
+
+  write-sum-write-sum-requires-2 : write-sum-lts.Need-write-sum-requires-2 write-sum-calls write-sum-at write-sum.Post
+  write-sum-write-sum-requires-2 c κs =
+      let p = c .before .before .before .before .before .before .before .before .before .before .pre in
+      let s = choices (c .before .before .before .before) in
+      let l = s .less in
+      let m = s .some in
+      let i = p .1 .0 .1 in
+      (omega arith, ((omega arith, omega arith), (hopped-given (p .1 .1 .0) s (c .before .hop .ensures), others-ready _ _ _ _ _ _ _ _ (sum-start (c .before .before .before .before) .pre .1 .1 .1) (choices (c .before .before .before .before)) (c .before .before .if2 .left) (c .before .hop .ensures))))
+
+  write-sum-same-length-3 : write-sum-lts.Need-same-length-3 write-sum-calls write-sum-at write-sum.Post
+  write-sum-same-length-3 c = numbered-length (others-ready _ _ _ _ _ _ _ _ (sum-start (c .before .before .before .before .before .before .before) .pre .1 .1 .1) (choices (c .before .before .before .before .before .before .before)) (c .before .before .before .before .before .if2 .left) (c .before .before .before .before .hop .ensures)) (c .before .before .write-sum2 .ensures)
+
+  write-sum-returns-3 : write-sum-lts.Need-returns-3 write-sum-calls write-sum-at write-sum.Post
+  write-sum-returns-3 c = others-placed _ _ _ _ _ _ _ _ (sum-start (c .before .before .before .before .before .before .before) .pre .1 .1 .1) (choices (c .before .before .before .before .before .before .before)) (c .before .before .before .before .before .if2 .left) (c .before .before .before .before .hop .ensures) (c .before .before .write-sum2 .ensures)
+
+pub +write-block+write-list+write-product+write-record+write-sum-spec : {M : Type 1} → statement M
++write-block+write-list+write-product+write-record+write-sum-spec =
+    close μ-write-block μ-write-list μ-write-product μ-write-record μ-write-sum
+    (λ t. write-block-lts.spec (write-block-calls t) (write-block-at t) write-block.Post (λ c. search steps) (λ c. search steps) (λ c. search steps) (λ c. search steps) (write-block-write-product-requires t) (write-block-same-length t) (write-block-returns-2 t))
+    (λ t. write-list-lts.spec (write-list-calls t) (write-list-at t) write-list.Post (λ c κs. search steps) (λ c. search steps) (write-list-write-block-requires t) (λ c. search steps) (λ c κs. search steps) (write-list-add-write-block t) (write-list-write-block-requires-2 t) (write-list-sub-write-list t) (write-list-part-write-list-start t) (λ c. search steps) (write-list-write-list-requires t) (write-list-add-t18 t) (write-list-add-t17 t) (write-list-same-length t) (write-list-returns t) (write-list-same-length-2 t) (write-list-returns-2 t))
+    (λ t. write-product-lts.spec (write-product-calls t) (write-product-at t) write-product.Post (λ c κs. search steps) (λ c. search steps) (λ c κs. search steps) (λ c. search steps) (λ c. search steps) (write-product-mul-t21 t) (write-product-shared-slice-read-t23 t) (λ c. search steps) (λ c. search steps) (λ c. search steps) (λ c. search steps) (λ c κs. search steps) (write-product-sub-others t) (write-product-add-write-product t) (write-product-write-product-requires t) (write-product-sub-write-product t) (write-product-part-write-product-start t) (λ c. search steps) (write-product-write-product-requires-2 t) (write-product-add-t24 t) (write-product-same-length-3 t) (write-product-returns-4 t))
+    (λ t. write-record-lts.spec (write-record-calls t) (write-record-at t) write-record.Post (λ c κs. search steps) (λ c κs. search steps) (λ c. search steps) (λ c. search steps) (write-record-shared-slice-read-side t) (write-record-cast-side t) (write-record-sub-write-mark t) (write-record-write-mark-requires t) (write-record-add-t27 t) (λ c. search steps) (write-record-write-mark-requires-2 t) (write-record-sub-write-integer t) (write-record-part-write-integer-start t) (write-record-part-write-integer-end t) (write-record-write-integer-requires t) (λ c. search steps) (λ c. search steps) (λ c. search steps) (write-record-sub-write-product-2 t) (write-record-part-write-product-start t) (λ c. search steps) (write-record-write-product-requires t) (write-record-write-mark-requires-3 t) (write-record-add-t36 t) (λ c. search steps) (λ c. search steps) (λ c. search steps) (write-record-sub-write-sum-2 t) (write-record-part-write-sum-start t) (λ c. search steps) (write-record-write-sum-requires t) (write-record-write-mark-requires-4 t) (write-record-add-t45 t) (λ c. search steps) (λ c. search steps) (λ c. search steps) (write-record-sub-write-list-2 t) (write-record-part-write-list-start t) (λ c. search steps) (write-record-write-list-requires t) (write-record-write-mark-requires-5 t) (write-record-add-t54 t) (λ c. search steps) (λ c. search steps) (λ c. search steps) (write-record-write-product-requires-2 t) (write-record-returns t) (write-record-same-length t) (write-record-returns-2 t) (write-record-same-length-2 t) (write-record-returns-3 t) (write-record-same-length-3 t) (write-record-returns-4 t) (write-record-same-length-4 t) (write-record-returns-5 t) (write-record-same-length-5 t) (write-record-returns-6 t) (write-record-same-length-6 t) (write-record-returns-7 t))
+    (λ t. write-sum-lts.spec (write-sum-calls t) (write-sum-at t) write-sum.Post (write-sum-write-record-requires t) (write-sum-same-length t) (write-sum-returns t) (write-sum-btree-split-index-requires t) (write-sum-shared-slice-read-if2 t) (write-sum-add-write-sum t) (write-sum-write-sum-requires t) (write-sum-same-length-2 t) (write-sum-returns-2 t) (write-sum-sub-others t) (write-sum-hop-requires t) (write-sum-add-write-sum-2 t) (write-sum-add-write-sum-3 t) (write-sum-write-sum-requires-2 t) (write-sum-same-length-3 t) (write-sum-returns-3 t))

@@ -1,0 +1,592 @@
+-- The steps of the writers, in the form in which the code's needs ask them.
+use mathlib.Core.Path.{_≡_, refl, sym, ap, ap₂, subst, _∙_}
+use mathlib.Core.Bool.{Bool}
+use mathlib.Core.List.{List, [], _∷_, _++_}
+use mathlib.Core.Option.{Option, some, Option·some-injective}
+use Prim.Native.Nat.{ℕ, zero, suc, _+_, _-_, _^_, _≤_, _<_}
+use native.Mathlib.Nat.{zero-add, suc-add}
+use native.Mathlib.Omega.{arith}
+use mir.Syntax.{w64}
+use mir.Val.{Fits}
+use lib.Dec.{eqb}
+use lib.ListN.{length, getD}
+use Rattle.model.specs.Balanced.{btree-split-index}
+use Rattle.model.specs.Laws.Balanced.{split-bounds}
+use Rattle.num.specs.declared.NonZeroPow2Usize.{NonZeroPow2Usize}
+use Rattle.num.specs.declared.Bound.{Bound}
+use Rattle.num.specs.declared.Bound.the-variants as bounds
+use Rattle.num.specs.Powers.{half-bound}
+use Rattle.model.specs.Options.{mapO}
+use Rattle.model.specs.Bytes.{of-bits}
+use Rattle.model.specs.ValueFiles.{Rec, rec}
+use Rattle.model.specs.Laws.Options.{mapO-some}
+use Rattle.types.specs.declared.Head.{Head}
+use Rattle.types.specs.declared.Head.the-variants.{Missing, Faulty, Never, Boolean, UInt, Either, Opt, Tuple, Array, Listed, Variants}
+use Rattle.types.specs.declared.Head.the-variants as head
+use Rattle.types.specs.Heads.{FairBound}
+use Rattle.bits.specs.Bits as bits
+use Rattle.bits.specs.Laws.Writing.{wrote-then, wrote-same}
+use Rattle.structural.specs.Forms.{ending, Stands}
+use Rattle.structural.specs.Writing.{put, Wrote}
+use Rattle.structural.specs.Laws.Forms.{stands-end}
+use Rattle.structural.specs.Laws.Writing.{rest, back, wrote-none, wrote-length}
+use Rattle.types.specs.Steps.{given-levels, given-within, given-inside}
+use Rattle.told.specs.declared.Parts.{Parts}
+use Rattle.told.specs.declared.Parts.the-variants.{Copies, Types}
+use Rattle.told.specs.Forms.{after, skip, GivenParts, hops, Hops}
+use Rattle.record.specs.Marks.{mark-of, Marks, bytes, written}
+use Rattle.record.specs.declared.Form.{Form}
+use Rattle.record.specs.declared.Form.the-variants as form
+use Rattle.restore.specs.declared.Numbered.{Numbered}
+use Rattle.record.specs.Trees.{bit-row, product, sum, blocked, elements}
+use Rattle.record.specs.Forms.{form-of}
+use Rattle.restore.specs.Forms.{tree-at, made-at, standing, Given, Found, Ends, Ready, ReadyNumbered, Placed, PlacedNumbered, Whole, BitsPlaced, IntegerPlaced}
+use Rattle.restore.specs.Laws.Splits.{OneBit, bit-row-one, BitSides, bit-row-sides, NoParts, product-none, none-product, product-one, ProductSides, product-sides}
+use Rattle.restore.specs.Laws.Turns.{Only, sum-one, Leftwards, Rightwards, sum-left, sum-right, sum-inside}
+use Rattle.restore.specs.Laws.Lists.{Empty, Full, block-inside, block-left, block-right, list-two, Halves, list-more}
+use Rattle.restore.specs.Laws.Sums.{elements-less}
+use Rattle.restore.specs.Laws.Writing.{first-room, first-fits, second-room, both-done, both-small, record-room, below-room, below-length, record-small, record-done, record-alone, returned, integer-put}
+use Rattle.restore.specs.Laws.Formed.{BitGiven, IntegerGiven}
+
+-- what is found there is one thing
+module _ {A : Type 0} {g : Given A} {a c : A} {e n : ℕ} (h : g ≡ some (a, e)) (k : g ≡ some (c, n)) where
+  pub same-what : a ≡ c
+  same-what = ap (λ (y : A × ℕ). y .0) (Option·some-injective _ _ (sym h ∙ k))
+
+  pub same-end : e ≡ n
+  same-end = ap (λ (y : A × ℕ). y .1) (Option·some-injective _ _ (sym h ∙ k))
+
+-- the left side has at least one part, and so has the right side
+pub record Shares (n few : ℕ) : Type 0 where
+  pub split : few ≡ btree-split-index n
+  pub some : 1 ≤ few
+  pub less : few < n
+
+pub shares : {n few : ℕ} → few ≡ btree-split-index n → 2 ≤ n → Shares n few
+shares {n} e h = let b = split-bounds n h in record { split = e; some = omega arith; less = omega arith }
+
+-- RECORDS
+
+module _ {d : ℕ} {s E : List ℕ} {p : ℕ} (g : Stands d s E p) where
+  pub level-some : 1 ≤ d
+  level-some = let h = given-levels (g .given) in omega arith
+
+  pub next-fits : length s < 2 ^ 64 → Fits w64 (p + 1)
+  next-fits l = let h = given-within (g .given) in omega arith
+
+  pub stands-inside : p < length E
+  stands-inside = given-inside (g .given)
+
+-- BITS
+
+module _ (sh : List ℕ) (n q : ℕ) (g : Found (made-at sh (bit-row n) q)) where
+  one-bit : n ≡ 1 → OneBit sh q (g .what) (g .end)
+  one-bit z = bit-row-one sh n q (g .what) (g .end) z (g .there)
+
+  pub bit-inside : n ≡ 1 → q < length sh
+  bit-inside z = let l = one-bit z .there .inside in omega arith
+
+  pub bit-fits : n ≡ 1 → length sh < 2 ^ 64 → Fits w64 (q + 2)
+  bit-fits z m = let l = one-bit z .there .inside in omega arith
+
+  pub bit-placed : {before after : List ℕ} {j : ℕ} → n ≡ 1 → bits.Wrote before j (eqb (getD sh q 0) 2 ∷ []) after → BitsPlaced (made-at sh (bit-row n) q) before j after (q + 2)
+  bit-placed z w =
+      let o = one-bit z in
+      record { bools = g .what; there = g .there ∙ ap (λ e. some (g .what, e)) (o .there .end); wrote = wrote-same w (ap (λ (b : Bool). b ∷ []) (sym (o .there .side)) ∙ sym (o .same)) }
+
+  module _ {few : ℕ} (h : Shares n few) where
+    bit-sides : BitSides sh n few q (g .what) (g .end)
+    bit-sides = let l = h .some in let m = h .less in bit-row-sides sh n few q (g .what) (g .end) (omega arith) (h .split) (g .there)
+
+    pub bits-fit : length sh < 2 ^ 64 → Fits w64 (q + 1)
+    bits-fit m = let l = bit-sides .inside in omega arith
+
+    pub left-bits : Found (made-at sh (bit-row few) (q + 1))
+    left-bits = record { what = bit-sides .firsts; end = bit-sides .mid; there = bit-sides .left-bits }
+
+    module _ {before between : List ℕ} {j next : ℕ} (v : BitsPlaced (made-at sh (bit-row few) (q + 1)) before j between next) where
+      right-there : made-at sh (bit-row (n - few)) next ≡ some (bit-sides .seconds, g .end)
+      right-there = ap (made-at sh (bit-row (n - few))) (same-end (v .there) (bit-sides .left-bits)) ∙ bit-sides .right-bits
+
+      pub right-bits : Found (made-at sh (bit-row (n - few)) next)
+      right-bits = record { what = bit-sides .seconds; end = g .end; there = right-there }
+
+      pub bits-placed : {after : List ℕ} {last : ℕ} → BitsPlaced (made-at sh (bit-row (n - few)) next) between (j + few) after last → BitsPlaced (made-at sh (bit-row n) q) before j after last
+      bits-placed u =
+          let s = bit-sides in
+          let l : length (v .bools) ≡ few = ap length (same-what (v .there) (s .left-bits)) ∙ s .few-bits in
+          record {
+            bools = g .what;
+            there = g .there ∙ ap (λ e. some (g .what, e)) (same-end right-there (u .there));
+            wrote = wrote-same (wrote-then (v .wrote) (u .wrote) (ap (λ i. j + i) (sym l))) (ap₂ _++_ (same-what (v .there) (s .left-bits)) (same-what (u .there) right-there) ∙ sym (s .all));
+          }
+
+-- PARTS
+
+module _ (k : Parts) (d : ℕ) (s : List ℕ) where
+  skip-add : (m n p : ℕ) → skip k d s (m + n) p ≡ skip k d s n (skip k d s m p)
+  unfolding skip
+  skip-add zero n p = ap (λ i. skip k d s i p) (zero-add n)
+  skip-add (suc m) n p = ap (λ i. skip k d s i p) (suc-add m n) ∙ skip-add m n (after k d s p)
+
+  pub skip-none : (n p : ℕ) → n ≡ 0 → p ≡ skip k d s n p
+  unfolding skip
+  skip-none n p z = ap (λ i. skip k d s i p) (sym z)
+
+  pub skip-copy : (n p : ℕ) → n ≡ 1 → k ≡ Copies → p ≡ skip k d s n p
+  unfolding skip after
+  skip-copy n p z e = rw (z, e) refl
+
+  pub skip-type : (E : List ℕ) (n p : ℕ) → n ≡ 1 → k ≡ Types → Stands d s E p → getD E p 0 ≡ skip k d s n p
+  unfolding skip after
+  skip-type E n p z e g = rw (z, e) (stands-end g)
+
+  pub skip-both : {n few : ℕ} → Shares n few → (p : ℕ) {a b : ℕ} → a ≡ skip k d s few p → b ≡ skip k d s (n - few) a → b ≡ skip k d s n p
+  skip-both {n} {few} h p e f =
+      let l = h .less in
+      let m : few + (n - few) ≡ n = omega arith in
+      f ∙ ap (skip k d s (n - few)) e ∙ sym (skip-add few (n - few) p) ∙ ap (λ i. skip k d s i p) m
+
+module _ {k : Parts} {d : ℕ} {s E : List ℕ} {n p : ℕ} (g : GivenParts k d s E n p) where
+  pub one-given : n ≡ 1 → Stands d s E p
+  unfolding skip
+  one-given z = g .each 0 (omega arith)
+
+  module _ {few : ℕ} (h : Shares n few) where
+    pub left-given : GivenParts k d s E few p
+    left-given = let l = h .less in record { each = λ i m. g .each i (omega arith) }
+
+    pub right-given : {a : ℕ} → a ≡ skip k d s few p → GivenParts k d s E (n - few) a
+    right-given e = let l = h .less in rw e (record { each = λ i m. rw (← skip-add k d s few i p) (g .each (few + i) (omega arith)) })
+
+-- the table tells where types and Variants stand
+hops-skip : {d : ℕ} {s E : List ℕ} (i n p : ℕ) → i ≤ n → GivenParts Types d s E n p → hops E i p ≡ skip Types d s i p
+unfolding hops skip after
+hops-skip zero n p l g = refl
+hops-skip {d} {s} {E} (suc i) zero p l g = absurd (omega arith)
+hops-skip {d} {s} {E} (suc i) (suc n) p l g =
+    ap (hops E i) (stands-end (g .each 0 (omega arith))) ∙ hops-skip i n (ending d s p) (omega arith) (record { each = λ j m. g .each (suc j) (omega arith) })
+
+module _ {d : ℕ} {s E : List ℕ} {n p few : ℕ} (g : GivenParts Types d s E n p) (h : Shares n few) where
+  pub given-hops : Hops E few p
+  given-hops = let l = h .less in record { each = λ i m. rw (hops-skip i n p (omega arith) g) (stands-inside (g .each i (omega arith))) }
+
+  pub hopped-given : {a : ℕ} → a ≡ hops E few p → GivenParts Types d s E (n - few) a
+  hopped-given e = let l = h .less in right-given g h (e ∙ hops-skip few n p (omega arith) g)
+
+-- PRODUCTS
+
+-- the same, of what is the same
+module _ {g b : Given (List Rec)} {out : List ℕ} (e : g ≡ b) where
+  pub ready-as : Ready g out → Ready b out
+  ready-as r = record { recs = r .recs; end = r .end; there = sym e ∙ r .there; room = r .room }
+
+  pub placed-as : {o : List ℕ} {next len : ℕ} → Placed b out o next len → Placed g out o next len
+  placed-as v = record { recs = v .recs; there = e ∙ v .there; wrote = v .wrote }
+
+module _ (k : Parts) (d : ℕ) (s sh : List ℕ) (n p q : ℕ) (out : List ℕ) (g : Ready (made-at sh (product k d s n p) q) out) where
+  pub none-found : n ≡ 0 → Found (tree-at sh q)
+  none-found z = let o = product-none k d s sh n p q (g .recs) (g .end) z (g .there) in record { what = o .tree; end = g .end; there = o .there }
+
+  pub none-placed : {next : ℕ} → n ≡ 0 → Ends (tree-at sh q) next → Placed (made-at sh (product k d s n p) q) out out next 0
+  unfolding written
+  none-placed z e = record { recs = []; there = none-product k d s sh n p q (e .what) _ z (e .there); wrote = wrote-none out }
+
+  pub one-ready : n ≡ 1 → Ready (standing sh d s p q) out
+  one-ready z = ready-as (product-one k d s sh n p q z) g
+
+  pub one-placed : {o : List ℕ} {next len : ℕ} → n ≡ 1 → Placed (standing sh d s p q) out o next len → Placed (made-at sh (product k d s n p) q) out o next len
+  one-placed z v = placed-as (product-one k d s sh n p q z) v
+
+  module _ {few : ℕ} (h : Shares n few) where
+    parts-sides : ProductSides k d s sh n few p q (g .recs) (g .end)
+    parts-sides = let l = h .some in let m = h .less in product-sides k d s sh n few p q (g .recs) (g .end) (omega arith) (h .split) (g .there)
+
+    parts-room : length (written (parts-sides .firsts ++ parts-sides .seconds)) ≤ length out
+    parts-room = subst (λ rs. length (written rs) ≤ length out) (parts-sides .all) (g .room)
+
+    pub parts-fit : length sh < 2 ^ 64 → Fits w64 (q + 1)
+    parts-fit m = let l = parts-sides .inside in omega arith
+
+    pub left-ready : Ready (made-at sh (product k d s few p) (q + 1)) out
+    left-ready = let i = parts-sides in record { recs = i .firsts; end = i .mid; there = i .left-parts; room = first-room (i .firsts) (i .seconds) out parts-room }
+
+    module _ {o : List ℕ} {next len : ℕ} (v : Placed (made-at sh (product k d s few p) (q + 1)) out o next len) where
+      left-wrote : Wrote (written (parts-sides .firsts)) out o len
+      left-wrote = subst (λ rs. Wrote (written rs) out o len) (same-what (v .there) (parts-sides .left-parts)) (v .wrote)
+
+      pub left-fits : len ≤ length o
+      left-fits = first-fits (parts-sides .firsts) (parts-sides .seconds) out parts-room left-wrote
+
+      module _ {a : ℕ} (e : a ≡ skip k d s few p) where
+        right-is : made-at sh (product k d s (n - few) a) next ≡ some (parts-sides .seconds, g .end)
+        right-is = ap₂ (λ a q. made-at sh (product k d s (n - few) a) q) e (same-end (v .there) (parts-sides .left-parts)) ∙ parts-sides .right-parts
+
+        pub right-ready : Ready (made-at sh (product k d s (n - few) a) next) (rest len o)
+        right-ready = record { recs = parts-sides .seconds; end = g .end; there = right-is; room = second-room (parts-sides .firsts) (parts-sides .seconds) out parts-room left-wrote }
+
+        module _ {x : List ℕ} {last r : ℕ} (u : Placed (made-at sh (product k d s (n - few) a) next) (rest len o) x last r) where
+          right-wrote : Wrote (written (parts-sides .seconds)) (rest len o) x r
+          right-wrote = subst (λ rs. Wrote (written rs) (rest len o) x r) (same-what (u .there) right-is) (u .wrote)
+
+          pub sides-placed : Placed (made-at sh (product k d s n p) q) out (back len o x) last (r + len)
+          sides-placed = record {
+            recs = g .recs;
+            there = g .there ∙ ap (λ e. some (g .recs, e)) (same-end right-is (u .there));
+            wrote = subst (λ rs. Wrote (written rs) out (back len o x) (r + len)) (sym (parts-sides .all)) (both-done (parts-sides .firsts) (parts-sides .seconds) out parts-room left-wrote right-wrote);
+          }
+
+          pub sides-small : r + len ≤ length out
+          sides-small = both-small (parts-sides .firsts) (parts-sides .seconds) out parts-room left-wrote right-wrote
+
+-- of which the length alone is told
+pub placed-whole : {g : Given (List Rec)} {out o : List ℕ} {next len : ℕ} → Placed g out o next len → Whole g out o len
+placed-whole {next = next} v = record { recs = v .recs; end = next; there = v .there; wrote = v .wrote }
+
+-- the buffer is as long as it was
+pub placed-length : {g : Given (List Rec)} {out o : List ℕ} {next len : ℕ} → Ready g out → Placed g out o next len → length o ≡ length out
+placed-length {out = out} r v = wrote-length (v .wrote) (subst (λ rs. length (written rs) ≤ length out) (same-what (r .there) (v .there)) (r .room))
+
+pub numbered-length : {g : Given (ℕ × List Rec)} {i : ℕ} {out o : List ℕ} {r : Numbered} → ReadyNumbered g out → PlacedNumbered g i out o r → length o ≡ length out
+numbered-length {out = out} r v = wrote-length (v .wrote) (subst (λ y. length (written (y .1)) ≤ length out) (same-what (r .there) (v .there)) (r .room))
+
+-- SUMS
+
+module _ (d : ℕ) (s E sh : List ℕ) (n p q : ℕ) (out : List ℕ) (g : ReadyNumbered (made-at sh (sum d s E n p) q) out) where
+  only : n ≡ 1 → Only sh d s E p q (g .number) (g .recs) (g .end)
+  only z = sum-one sh d s E n p q (g .number) (g .recs) (g .end) z (g .there)
+
+  pub only-ready : n ≡ 1 → Ready (standing sh d s p q) out
+  only-ready z = record { recs = g .recs; end = g .end; there = only z .there; room = g .room }
+
+  pub only-placed : (i : ℕ) {o : List ℕ} {next len : ℕ} → n ≡ 1 → Placed (standing sh d s p q) out o next len → PlacedNumbered (made-at sh (sum d s E n p) q) i out o (record { number = i; next = next; len = len })
+  only-placed i {o} {next} {len} z v =
+      let y = only z in
+      let f = y .first in
+      record {
+        number = g .number;
+        recs = g .recs;
+        there = g .there ∙ ap (λ e. some ((g .number, g .recs), e)) (same-end (y .there) (v .there));
+        counted = omega arith;
+        wrote = subst (λ rs. Wrote (written rs) out o len) (same-what (v .there) (y .there)) (v .wrote);
+      }
+
+  module _ {few : ℕ} (h : Shares n few) where
+    two-choices : 2 ≤ n
+    two-choices = let l = h .some in let m = h .less in omega arith
+
+    pub choice-inside : q < length sh
+    choice-inside = sum-inside sh d s E n p q (g .number) (g .recs) (g .end) two-choices (g .there)
+
+    pub choice-fits : length sh < 2 ^ 64 → Fits w64 (q + 1)
+    choice-fits m = let l = choice-inside in omega arith
+
+    module _ (t : getD sh q 0 ≡ 1) where
+      to-left : Leftwards sh d s E n few p q (g .number) (g .recs) (g .end)
+      to-left = sum-left sh d s E n few p q (g .number) (g .recs) (g .end) two-choices (h .split) t (g .there)
+
+      pub first-ready : ReadyNumbered (made-at sh (sum d s E few p) (q + 1)) out
+      first-ready = record { number = g .number; recs = g .recs; end = g .end; there = to-left .below; room = g .room }
+
+      pub first-placed : {i : ℕ} {o : List ℕ} {r : Numbered} → PlacedNumbered (made-at sh (sum d s E few p) (q + 1)) i out o r → PlacedNumbered (made-at sh (sum d s E n p) q) i out o r
+      first-placed v =
+          let w = same-what (to-left .below) (v .there) in
+          record { number = v .number; recs = v .recs; there = g .there ∙ ap₂ (λ y e. some (y, e)) w (same-end (to-left .below) (v .there)); counted = v .counted; wrote = v .wrote }
+
+    module _ (t : getD sh q 0 ≡ 1 → ⊥) {a : ℕ} (e : a ≡ hops E few p) where
+      to-right : Rightwards sh d s E n few p q (g .number) (g .recs) (g .end)
+      to-right = sum-right sh d s E n few p q (g .number) (g .recs) (g .end) two-choices (h .split) t (g .there)
+
+      right-below : made-at sh (sum d s E (n - few) a) (q + 1) ≡ some ((to-right .number, g .recs), g .end)
+      right-below = ap (λ a. made-at sh (sum d s E (n - few) a) (q + 1)) e ∙ to-right .below
+
+      pub others-ready : ReadyNumbered (made-at sh (sum d s E (n - few) a) (q + 1)) out
+      others-ready = record { number = to-right .number; recs = g .recs; end = g .end; there = right-below; room = g .room }
+
+      pub others-placed : {i : ℕ} {o : List ℕ} {r : Numbered} → PlacedNumbered (made-at sh (sum d s E (n - few) a) (q + 1)) (i + few) out o r → PlacedNumbered (made-at sh (sum d s E n p) q) i out o r
+      others-placed {i} {o} {r} v =
+          let w = same-what right-below (v .there) in
+          let f = ap (λ (y : ℕ × List Rec). y .0) w in
+          let m = to-right .moved in
+          let c = v .counted in
+          record {
+            number = g .number;
+            recs = g .recs;
+            there = g .there ∙ ap (λ e. some ((g .number, g .recs), e)) (same-end right-below (v .there));
+            counted = omega arith;
+            wrote = subst (λ (y : ℕ × List Rec). Wrote (written (y .1)) out o (r .len)) (sym w) (v .wrote);
+          }
+
+-- BLOCKS
+
+module _ (d : ℕ) (s sh : List ℕ) (n p q : ℕ) (out : List ℕ) (g : ReadyNumbered (made-at sh (blocked d s n p) q) out) where
+  pub block-starts : q < length sh
+  block-starts = block-inside sh d s n p q (g .number) (g .recs) (g .end) (g .there)
+
+  pub block-fits : length sh < 2 ^ 64 → Fits w64 (q + 1)
+  block-fits m = let l = block-starts in omega arith
+
+  module _ (t : getD sh q 0 ≡ 1) where
+    no-elements : Empty sh d s q (g .number) (g .recs) (g .end)
+    no-elements = block-left sh d s n p q (g .number) (g .recs) (g .end) t (g .there)
+
+    pub empty-fits : length sh < 2 ^ 64 → Fits w64 (q + 2)
+    empty-fits m = let l = no-elements .inside in omega arith
+
+    pub empty-placed : PlacedNumbered (made-at sh (blocked d s n p) q) 0 out out (record { number = 0; next = q + 2; len = 0 })
+    unfolding written
+    empty-placed =
+        let b = no-elements in
+        let f = b .number in
+        record {
+          number = g .number;
+          recs = g .recs;
+          there = g .there ∙ ap (λ e. some ((g .number, g .recs), e)) (b .end);
+          counted = omega arith;
+          wrote = subst (λ rs. Wrote (written rs) out out 0) (sym (b .recs)) (wrote-none out);
+        }
+
+  module _ (t : getD sh q 0 ≡ 1 → ⊥) where
+    elements-all : Full sh d s n p q (g .number) (g .recs) (g .end)
+    elements-all = block-right sh d s n p q (g .number) (g .recs) (g .end) t (g .there)
+
+    pub full-ready : Ready (made-at sh (product Copies d s n p) (q + 1)) out
+    full-ready = record { recs = g .recs; end = g .end; there = elements-all .below; room = g .room }
+
+    pub full-placed : {o : List ℕ} {next len : ℕ} → Placed (made-at sh (product Copies d s n p) (q + 1)) out o next len → PlacedNumbered (made-at sh (blocked d s n p) q) 0 out o (record { number = n; next = next; len = len })
+    full-placed {o} {next} {len} v =
+        let b = elements-all in
+        let f = b .number in
+        record {
+          number = g .number;
+          recs = g .recs;
+          there = g .there ∙ ap (λ e. some ((g .number, g .recs), e)) (same-end (b .below) (v .there));
+          counted = omega arith;
+          wrote = subst (λ rs. Wrote (written rs) out o len) (same-what (v .there) (b .below)) (v .wrote);
+        }
+
+-- LISTS
+
+module _ (d : ℕ) (s sh : List ℕ) (b : NonZeroPow2Usize) (p q : ℕ) (out : List ℕ) (f : FairBound b) (g : ReadyNumbered (made-at sh (elements d s b p) q) out) where
+  module _ {x : Bound} (k : x ≡ half-bound (b .0)) (t : x ≡ bounds.Not) where
+    as-block : made-at sh (elements d s b p) q ≡ made-at sh (blocked d s 1 p) q
+    as-block = list-two sh d s p q f (sym t ∙ k)
+
+    pub two-ready : ReadyNumbered (made-at sh (blocked d s 1 p) q) out
+    two-ready = record { number = g .number; recs = g .recs; end = g .end; there = sym as-block ∙ g .there; room = g .room }
+
+    pub two-placed : {o : List ℕ} {r : Numbered} → PlacedNumbered (made-at sh (blocked d s 1 p) q) 0 out o r → PlacedNumbered (made-at sh (elements d s b p) q) 0 out o r
+    two-placed v = record { number = v .number; recs = v .recs; there = as-block ∙ v .there; counted = v .counted; wrote = v .wrote }
+
+  module _ {x : Bound} (k : x ≡ half-bound (b .0)) {h : NonZeroPow2Usize} (t : x ≡ bounds.Of h) where
+    pub halves : Halves sh d s b h p q (g .number) (g .recs) (g .end)
+    halves = list-more sh d s p q (g .number) (g .recs) (g .end) f (sym t ∙ k) (g .there)
+
+    halves-room : length (written (halves .firsts ++ halves .seconds)) ≤ length out
+    halves-room = subst (λ rs. length (written rs) ≤ length out) (halves .all) (g .room)
+
+    pub list-fits : length sh < 2 ^ 64 → Fits w64 (q + 1)
+    list-fits m = let l = halves .inside in omega arith
+
+    module _ {n : ℕ} (e : n ≡ h .0) where
+      block-is : made-at sh (blocked d s n p) (q + 1) ≡ some ((halves .first, halves .firsts), halves .mid)
+      block-is = ap (λ n. made-at sh (blocked d s n p) (q + 1)) e ∙ halves .block-there
+
+      pub block-ready : ReadyNumbered (made-at sh (blocked d s n p) (q + 1)) out
+      block-ready = record { number = halves .first; recs = halves .firsts; end = halves .mid; there = block-is; room = first-room (halves .firsts) (halves .seconds) out halves-room }
+
+      module _ {o : List ℕ} {l : Numbered} (v : PlacedNumbered (made-at sh (blocked d s n p) (q + 1)) 0 out o l) where
+        block-wrote : Wrote (written (halves .firsts)) out o (l .len)
+        block-wrote = subst (λ (y : ℕ × List Rec). Wrote (written (y .1)) out o (l .len)) (same-what (v .there) block-is) (v .wrote)
+
+        pub block-ends : l .len ≤ length o
+        block-ends = first-fits (halves .firsts) (halves .seconds) out halves-room block-wrote
+
+        list-is : made-at sh (elements d s h p) (l .next) ≡ some ((halves .second, halves .seconds), g .end)
+        list-is = ap (made-at sh (elements d s h p)) (same-end (v .there) block-is) ∙ halves .list-there
+
+        pub list-ready : ReadyNumbered (made-at sh (elements d s h p) (l .next)) (rest (l .len) o)
+        list-ready = record { number = halves .second; recs = halves .seconds; end = g .end; there = list-is; room = second-room (halves .firsts) (halves .seconds) out halves-room block-wrote }
+
+        module _ {y : List ℕ} {r : Numbered} (u : PlacedNumbered (made-at sh (elements d s h p) (l .next)) 0 (rest (l .len) o) y r) where
+          list-wrote : Wrote (written (halves .seconds)) (rest (l .len) o) y (r .len)
+          list-wrote = subst (λ (z : ℕ × List Rec). Wrote (written (z .1)) (rest (l .len) o) y (r .len)) (same-what (u .there) list-is) (u .wrote)
+
+          all-counted : l .number + r .number ≡ g .number
+          all-counted =
+              let a = v .counted in
+              let c = u .counted in
+              let i = ap (λ (y : ℕ × List Rec). y .0) (same-what (v .there) block-is) in
+              let j = ap (λ (y : ℕ × List Rec). y .0) (same-what (u .there) list-is) in
+              let m = halves .number in
+              omega arith
+
+          pub list-placed : PlacedNumbered (made-at sh (elements d s b p) q) 0 out (back (l .len) o y) (record { number = l .number + r .number; next = r .next; len = r .len + l .len })
+          list-placed =
+              let m = all-counted in
+              record {
+                number = g .number;
+                recs = g .recs;
+                there = g .there ∙ ap (λ e. some ((g .number, g .recs), e)) (same-end list-is (u .there));
+                counted = omega arith;
+                wrote = subst (λ rs. Wrote (written rs) out (back (l .len) o y) (r .len + l .len)) (sym (halves .all)) (both-done (halves .firsts) (halves .seconds) out halves-room block-wrote list-wrote);
+              }
+
+          pub list-small : r .len + l .len ≤ length out
+          list-small = both-small (halves .firsts) (halves .seconds) out halves-room block-wrote list-wrote
+
+          pub count-small : l .number + r .number < b .0
+          count-small = let m = all-counted in omega (arith, elements-less d s sh b p q ((g .number, g .recs), g .end) f (g .there))
+
+-- A RECORD AND WHAT STANDS BELOW IT
+
+-- g is r, and behind it what b has
+pub record Under (r : Rec) (b g : Given (List Rec)) (out : List ℕ) : Type 0 where
+  pub recs : List Rec
+  pub end : ℕ
+  pub below : b ≡ some (recs, end)
+  pub all : g ≡ some (r ∷ recs, end)
+  pub room : length (written (r ∷ recs)) ≤ length out
+
+pub under : {r : Rec} {b g : Given (List Rec)} {out : List ℕ} → Ready g out → g ≡ mapO (λ y. (r ∷ y .0, y .1)) b → Under r b g out
+under {r} {b} {g} {out} h e =
+    let (y, f, k) = mapO-some _ b (h .recs, h .end) (sym e ∙ h .there) in
+    let i = ap (λ (z : List Rec × ℕ). z .0) k in
+    record { recs = y .0; end = y .1; below = f; all = h .there ∙ ap some (sym k); room = subst (λ rs. length (written rs) ≤ length out) (sym i) (h .room) }
+
+module _ {r : Rec} {b g : Given (List Rec)} {out : List ℕ} (u : Under r b g out) where
+  pub under-start : 36 ≤ length out
+  under-start = record-room r (u .recs) out (u .room)
+
+  pub under-ready : Ready b (rest 36 out)
+  under-ready = record { recs = u .recs; end = u .end; there = u .below; room = below-room r (u .recs) out (u .room) }
+
+  module _ {p : List ℕ} {next len : ℕ} (v : Placed b (rest 36 out) p next len) where
+    under-wrote : Wrote (written (u .recs)) (rest 36 out) p len
+    under-wrote = subst (λ rs. Wrote (written rs) (rest 36 out) p len) (same-what (v .there) (u .below)) (v .wrote)
+
+    pub under-back : 36 ≤ length (back 36 out p)
+    under-back = let l = under-start in omega (arith, below-length r (u .recs) out (u .room) under-wrote)
+
+    pub under-small : len + 36 ≤ length out
+    under-small = record-small r (u .recs) out (u .room) under-wrote
+
+    pub under-placed : {o : List ℕ} → o ≡ put (bytes r) (back 36 out p) → Placed g out o next (len + 36)
+    under-placed {o} e = record { recs = r ∷ u .recs; there = u .all ∙ ap (λ i. some (r ∷ u .recs, i)) (same-end (u .below) (v .there)); wrote = record-done r (u .recs) out (u .room) under-wrote o e }
+
+-- the number of what has one, left out
+abbrev pub plain : Given (ℕ × List Rec) → Given (List Rec)
+plain b = mapO (λ y. (y .0 .1, y .1)) b
+
+-- likewise where r is told by the number
+pub record UnderNumbered (f : ℕ → Rec) (b : Given (ℕ × List Rec)) (g : Given (List Rec)) (out : List ℕ) : Type 0 where
+  pub number : ℕ
+  pub recs : List Rec
+  pub end : ℕ
+  pub below : b ≡ some ((number, recs), end)
+  pub all : g ≡ some (f number ∷ recs, end)
+  pub room : length (written (f number ∷ recs)) ≤ length out
+
+pub under-numbered : {f : ℕ → Rec} {b : Given (ℕ × List Rec)} {g : Given (List Rec)} {out : List ℕ} → Ready g out → g ≡ mapO (λ y. (f (y .0 .0) ∷ y .0 .1, y .1)) b → UnderNumbered f b g out
+under-numbered {f} {b} {g} {out} h e =
+    let (y, m, k) = mapO-some _ b (h .recs, h .end) (sym e ∙ h .there) in
+    let i = ap (λ (z : List Rec × ℕ). z .0) k in
+    record { number = y .0 .0; recs = y .0 .1; end = y .1; below = m; all = h .there ∙ ap some (sym k); room = subst (λ rs. length (written rs) ≤ length out) (sym i) (h .room) }
+
+module _ {f : ℕ → Rec} {b : Given (ℕ × List Rec)} {g : Given (List Rec)} {out : List ℕ} (u : UnderNumbered f b g out) where
+  as-under : Under (f (u .number)) (plain b) g out
+  as-under = record { recs = u .recs; end = u .end; below = ap plain (u .below); all = u .all; room = u .room }
+
+  pub numbered-start : 36 ≤ length out
+  numbered-start = under-start as-under
+
+  pub numbered-ready : ReadyNumbered b (rest 36 out)
+  numbered-ready = record { number = u .number; recs = u .recs; end = u .end; there = u .below; room = below-room (f (u .number)) (u .recs) out (u .room) }
+
+  module _ {p : List ℕ} {r : Numbered} (v : PlacedNumbered b 0 (rest 36 out) p r) where
+    as-placed : Placed (plain b) (rest 36 out) p (r .next) (r .len)
+    as-placed = record { recs = v .recs; there = ap plain (v .there); wrote = v .wrote }
+
+    pub numbered-is : r .number ≡ u .number
+    numbered-is = let c = v .counted in let e = ap (λ (y : ℕ × List Rec). y .0) (same-what (v .there) (u .below)) in omega arith
+
+    pub numbered-back : 36 ≤ length (back 36 out p)
+    numbered-back = under-back as-under as-placed
+
+    pub numbered-small : r .len + 36 ≤ length out
+    numbered-small = under-small as-under as-placed
+
+    pub numbered-placed : {o : List ℕ} → o ≡ put (bytes (f (r .number))) (back 36 out p) → Placed g out o (r .next) (r .len + 36)
+    numbered-placed {o} e = under-placed as-under as-placed (e ∙ ap (λ i. put (bytes (f i)) (back 36 out p)) numbered-is)
+
+-- A BIT'S RECORD AND AN INTEGER'S
+
+no-form : {A : Type 0} → _≡_ {A = ℕ} 0 1 → A
+no-form z = absurd (omega arith)
+
+pub side-fits : (n : ℕ) → n ≤ 2 → Fits w64 n
+side-fits n l = omega arith
+
+-- the record of a bit, by its form
+bit-mark : (h : Head) (i : ℕ) → form.Bit ≡ form-of h → (mark-of h i ≡ rec 1 i 0 0) × (i < 256 → Marks h i)
+bit-mark Missing i e = no-form cc
+bit-mark Faulty i e = no-form cc
+bit-mark Never i e = no-form cc
+bit-mark Boolean i e = (refl, λ l. l)
+bit-mark (UInt w) i e = no-form cc
+bit-mark Either i e = no-form cc
+bit-mark Opt i e = no-form cc
+bit-mark (Tuple n) i e = no-form cc
+bit-mark (Array n) i e = no-form cc
+bit-mark (Listed b) i e = no-form cc
+bit-mark (Variants n) i e = no-form cc
+bit-mark (head.Payload n) i e = no-form cc
+
+-- and of an integer
+integer-mark : (h : Head) (w : ℕ) → form.Integer w ≡ form-of h → (mark-of h 0 ≡ rec 2 0 w 0) × Marks h 0
+integer-mark Missing w e = no-form cc
+integer-mark Faulty w e = no-form cc
+integer-mark Never w e = no-form cc
+integer-mark Boolean w e = no-form cc
+integer-mark (UInt v) w e = let i : w ≡ v .0 = cc in (ap (λ i. rec 2 0 i 0) (sym i), tt)
+integer-mark Either w e = no-form cc
+integer-mark Opt w e = no-form cc
+integer-mark (Tuple n) w e = no-form cc
+integer-mark (Array n) w e = no-form cc
+integer-mark (Listed b) w e = no-form cc
+integer-mark (Variants n) w e = no-form cc
+integer-mark (head.Payload n) w e = no-form cc
+
+alone-room : {g : Given (List Rec)} {out : List ℕ} (r : Rec) (e : ℕ) → Ready g out → g ≡ some (r ∷ [], e) → 36 ≤ length out
+alone-room {out = out} r e h k = record-room r [] out (subst (λ rs. length (written rs) ≤ length out) (same-what (h .there) k) (h .room))
+
+module _ {d : ℕ} {s sh : List ℕ} {p q : ℕ} {out : List ℕ} (h : Head) (r : Form) (g : Ready (standing sh d s p q) out) (e : r ≡ form-of h) where
+  module _ (t : r ≡ form.Bit) (b : BitGiven d s sh p q) where
+    pub bit-room : 36 ≤ length out
+    bit-room = alone-room (rec 1 (getD sh q 0 - 1) 0 0) (q + 2) g (b .same)
+
+    pub bit-marks : Marks h (getD sh q 0 - 1)
+    bit-marks = let l = b .side in bit-mark h (getD sh q 0 - 1) (sym t ∙ e) .1 (omega arith)
+
+    pub bit-done : {o : List ℕ} → o ≡ put (bytes (mark-of h (getD sh q 0 - 1))) out → Placed (standing sh d s p q) out o (q + 2) 36
+    bit-done {o} f = record { recs = rec 1 (getD sh q 0 - 1) 0 0 ∷ []; there = b .same; wrote = record-alone (rec 1 (getD sh q 0 - 1) 0 0) out o (f ∙ ap (λ r. put (bytes r) out) (bit-mark h (getD sh q 0 - 1) (sym t ∙ e) .0)) }
+
+  module _ {w : ℕ} (t : r ≡ form.Integer w) (b : IntegerGiven w d s sh p q) where
+    pub integer-found : Found (made-at sh (bit-row w) q)
+    integer-found = let (y, f, k) = mapO-some _ (made-at sh (bit-row w) q) (g .recs, g .end) (sym (b .same) ∙ g .there) in record { what = y .0; end = y .1; there = f }
+
+    integer-is : (bs : List Bool) (n : ℕ) → made-at sh (bit-row w) q ≡ some (bs, n) → standing sh d s p q ≡ some (rec 2 0 w (of-bits bs) ∷ [], n)
+    integer-is bs n f = b .same ∙ ap (mapO (λ (y : List Bool × ℕ). (rec 2 0 w (of-bits (y .0)) ∷ [], y .1))) f
+
+    pub integer-room : 36 ≤ length out
+    integer-room = let i = integer-found in alone-room (rec 2 0 w (of-bits (i .what))) (i .end) g (integer-is (i .what) (i .end) (i .there))
+
+    pub integer-marks : Marks h 0
+    integer-marks = integer-mark h w (sym t ∙ e) .1
+
+    pub integer-done : {o x : List ℕ} {next : ℕ} → o ≡ put (bytes (mark-of h 0)) out → IntegerPlaced (made-at sh (bit-row w) q) x next → Placed (standing sh d s p q) out (returned o x) next 36
+    integer-done {o} {x} {next} f v = record {
+      recs = rec 2 0 w (of-bits (v .bools)) ∷ [];
+      there = integer-is (v .bools) next (v .there);
+      wrote = record-alone (rec 2 0 w (of-bits (v .bools))) out (returned o x) (integer-put w (of-bits (v .bools)) out o x (f ∙ ap (λ r. put (bytes r) out) (integer-mark h w (sym t ∙ e) .0)) (v .same));
+    }

@@ -4,7 +4,7 @@ use mathlib.Core.List.{List}
 use Prim.Native.Nat.{ℕ, _<_, _≤_}
 use native.Mathlib.Omega.{arith}
 use lib.ListN.{length}
-use Rattle.model.specs.Outcome.{Outcome, done, refused, _>>=_}
+use Rattle.model.specs.Outcome.{done}
 use Rattle.model.specs.Values.{Value, inject}
 use Rattle.model.specs.ShapeFiles.{shape-file}
 use Rattle.model.specs.ValueFiles.{value-of}
@@ -12,49 +12,20 @@ use Rattle.model.specs.Operations.{shaped}
 use Rattle.reply.specs.declared.Refusal.{Refusal}
 use Rattle.reply.specs.declared.Refusal.the-variants.{NoRoom}
 use Rattle.reply.specs.declared.Reply.the-variants as reply
-use Rattle.reply.specs.Numbers.{refusalNumber}
 use Rattle.types.specs.declared.TypeAnswer.{TypeAnswer}
 use Rattle.types.specs.declared.TypeAnswer.the-variants.{Ok, Refused}
 use Rattle.types.specs.Trees.{tree}
 use Rattle.table.specs.Tabled.{Tabled}
-use Rattle.table.specs.Facts as table
 use Rattle.value.specs.declared.Checked.{Checked}
 use Rattle.value.specs.declared.Checked.the-variants.{Next, Bad}
 use Rattle.value.specs.Check.{file-answer}
-use Rattle.value.specs.Model.{outcome-of, value-of-is, nothing-cut}
+use Rattle.value.specs.Model.{nothing-cut}
 use Rattle.told.specs.Forms.{standing}
 use Rattle.shape.specs.Forms.{Ready, Shaped}
 use Rattle.shape.specs.Laws.Whole.{value-ready, value-shaped}
 use Rattle.niegluk.specs.Delivering.{Delivers, deliver-refusal, deliver-no-room, deliver-result}
+use Rattle.niegluk.specs.Values.{value-refused, value-read}
 use Rattle.niegluk.specs.Lowers.{lower-given, lowers, lowers-small}
-
--- numbers that tell outcomes apart
-abbrev result : Outcome ℕ → ℕ
-result (done n) = n
-result (refused n) = 0
-
-abbrev refusal : Outcome ℕ → ℕ
-refusal (done n) = 0
-refusal (refused n) = n
-
-abbrev accepts : Outcome ℕ → ℕ
-accepts (done n) = 1
-accepts (refused n) = 0
-
--- an outcome of which a length is told
-module _ {A : Type 0} (f : A → ℕ) where
-  was-refused : (o : Outcome A) (n : ℕ) → (o >>= λ x. done (f x)) ≡ refused n → o ≡ refused n
-  was-refused (done x) n h = let z = ap accepts h in absurd (omega arith)
-  was-refused (refused m) n h = ap refused (ap refusal h)
-
-  pub record Had (o : Outcome A) (n : ℕ) : Type 0 where
-    pub had : A
-    pub is : o ≡ done had
-    pub told : f had ≡ n
-
-  was-done : (o : Outcome A) (n : ℕ) → (o >>= λ x. done (f x)) ≡ done n → Had o n
-  was-done (done x) n h = record { had = x; is = refl; told = ap result h }
-  was-done (refused m) n h = let z = ap accepts h in absurd (omega arith)
 
 module _ {s E S W : List ℕ} {r : TypeAnswer} (p : Tabled s r E S W) where
   pub shape-refused : (val : List ℕ) {O : List ℕ} {x : Refusal} → r ≡ Refused x → Delivers (shaped s val) O O (reply.Refused x)
@@ -62,41 +33,35 @@ module _ {s E S W : List ℕ} {r : TypeAnswer} (p : Tabled s r E S W) where
   shape-refused val {O} {x} e = deliver-refusal (shaped s val) O x (rw (p .answer, e) refl)
 
   module _ {n : ℕ} (e : r ≡ Ok n) (val : List ℕ) {c : Checked} (k : c ≡ file-answer (tree 32 s 0) val) where
-    abbrev cut-length : Value (tree 32 s 0) → ℕ
-    cut-length v = table.cut (length (shape-file (inject (tree 32 s 0) v)))
-
-    -- what the check answers is what the model reads
-    answers : (value-of (tree 32 s 0) val >>= λ v. done (cut-length v)) ≡ outcome-of c
-    answers = value-of-is (tree 32 s 0) val ∙ ap outcome-of (sym k)
-
-    -- rows 15 and 16
-    pub value-refused : {x : Refusal} → c ≡ Bad x → value-of (tree 32 s 0) val ≡ refused (refusalNumber x)
-    value-refused {x} h = was-refused cut-length (value-of (tree 32 s 0) val) (refusalNumber x) (answers ∙ ap outcome-of h)
-
     pub shape-bad-value : {O : List ℕ} {x : Refusal} → c ≡ Bad x → Delivers (shaped s val) O O (reply.Refused x)
     unfolding shaped
-    shape-bad-value {O} {x} h = deliver-refusal (shaped s val) O x (rw (lowers p e, value-refused h) refl)
+    shape-bad-value {O} {x} h = deliver-refusal (shaped s val) O x (rw (lowers p e, value-refused (tree 32 s 0) val k h) refl)
 
     module _ {i size : ℕ} (h : c ≡ Next i size) where
       -- the value that the file says
-      value-read : Had cut-length (value-of (tree 32 s 0) val) size
-      value-read = was-done cut-length (value-of (tree 32 s 0) val) size (answers ∙ ap outcome-of h)
+      value : Value (tree 32 s 0)
+      value = value-read (tree 32 s 0) val k h .had
+
+      value-is : value-of (tree 32 s 0) val ≡ done value
+      unfolding value
+      value-is = value-read (tree 32 s 0) val k h .is
 
       abbrev records : List ℕ
-      records = shape-file (inject (tree 32 s 0) (value-read .had))
+      records = shape-file (inject (tree 32 s 0) value)
 
       shape-size : length records ≡ size
-      shape-size = sym (nothing-cut (tree 32 s 0) val (value-read .had) (lowers-small p e) (value-read .is)) ∙ value-read .told
+      unfolding value
+      shape-size = sym (nothing-cut (tree 32 s 0) val value (lowers-small p e) value-is) ∙ value-read (tree 32 s 0) val k h .told
 
       shaped-is : shaped s val ≡ done records
       unfolding shaped
-      shaped-is = rw (lowers p e, value-read .is) refl
+      shaped-is = rw (lowers p e, value-is) refl
 
       pub shape-no-room : {O : List ℕ} → length O < size → Delivers (shaped s val) O O (reply.Refused NoRoom)
       shape-no-room {O} l = deliver-no-room (shaped s val) O records shaped-is (omega (arith, shape-size))
 
       pub shape-ready : (O : List ℕ) → size ≤ length O → Ready (standing 32 s val 0 0) O
-      shape-ready O l = value-ready s E val (value-read .had) (lower-given p e) (value-read .is) O (omega (arith, shape-size))
+      shape-ready O l = value-ready s E val value (lower-given p e) value-is O (omega (arith, shape-size))
 
       pub shape-done : {O O′ : List ℕ} {m : ℕ} → size ≤ length O → Shaped (standing 32 s val 0 0) O O′ m → Delivers (shaped s val) O O′ (reply.Done m)
-      shape-done {O} {O′} {m} l w = deliver-result (shaped s val) O O′ records m shaped-is (omega (arith, shape-size)) (value-shaped s E val (value-read .had) (lower-given p e) (value-read .is) w)
+      shape-done {O} {O′} {m} l w = deliver-result (shaped s val) O O′ records m shaped-is (omega (arith, shape-size)) (value-shaped s E val value (lower-given p e) value-is w)

@@ -2,7 +2,8 @@
 use reply::length_of;
 use reply::number;
 ghost use mathlib.Core.Path.{_≡_};
-ghost use Rattle.model.specs.Operations.{lowered, shaped, reconstructed, delivered};
+ghost use Rattle.model.specs.Frames.{after};
+ghost use Rattle.model.specs.Operations.{lowered, shaped, reconstructed, framed, unframed, delivered};
 
 // `lower` for C: the number, 0 where the type is lowered; `length` is 0 where it is not.
 #[no_mangle]
@@ -42,4 +43,34 @@ pub extern "C" fn niegluk_reconstruct(
     let restored = crate::reconstruct(ty, shape, out);
     *length = length_of(restored);
     number(restored)
+}
+
+// `write_frame` for C: the number, 0 where the frame is written; `length` is 0 where it is not.
+#[no_mangle]
+pub extern "C" fn niegluk_write_frame(
+    ty: &[u8],
+    value: &[u8],
+    out: &mut [u8],
+    length: &mut usize,
+) -> u32
+    ensures { λ r. ⌜ (r, now (length .exit), now (out .exit)) ≡ delivered (framed after (now (ty .entry)) (now (value .entry))) (now (out .entry)) ⌝ }
+{
+    let framed = crate::write_frame(ty, value, out);
+    *length = length_of(framed);
+    number(framed)
+}
+
+// `read_frame` for C: the number, 0 where the value file is written; `length` is 0 where it is not.
+#[no_mangle]
+pub extern "C" fn niegluk_read_frame(
+    ty: &[u8],
+    frame: &[u8],
+    out: &mut [u8],
+    length: &mut usize,
+) -> u32
+    ensures { λ r. ⌜ (r, now (length .exit), now (out .exit)) ≡ delivered (unframed after (now (ty .entry)) (now (frame .entry))) (now (out .entry)) ⌝ }
+{
+    let unframed = crate::read_frame(ty, frame, out);
+    *length = length_of(unframed);
+    number(unframed)
 }

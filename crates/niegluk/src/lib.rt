@@ -1,4 +1,6 @@
 // The public entries: each takes whole files and a buffer for its result, asks nothing of its caller, and answers a `Reply`.
+use accept::Accepted;
+use accept::accept;
 use rebuild::Records;
 use rebuild::ShapeAnswer;
 use rebuild::check_shape;
@@ -13,7 +15,8 @@ use types::check_type;
 use value::Checked;
 use value::check_file;
 ghost use mathlib.Core.Path.{_≡_};
-ghost use Rattle.model.specs.Operations.{lowered, shaped, reconstructed, delivered};
+ghost use Rattle.model.specs.Frames.{after};
+ghost use Rattle.model.specs.Operations.{lowered, shaped, reconstructed, framed, unframed, delivered};
 ghost use Rattle.reply.specs.Numbers.{numberOf, lengthOf};
 
 mod c;
@@ -76,6 +79,50 @@ pub fn reconstruct(ty: &[u8], shape: &[u8], out: &mut [u8]) -> Reply
                     Reply::Done(write_value(ty, &ends, shape, out))
                 }
             },
+        },
+    }
+}
+
+// Writes the frame of a value over the front of `out`, and answers its length; every byte behind it stays, and all of them where it is refused.
+pub fn write_frame(ty: &[u8], value: &[u8], out: &mut [u8]) -> Reply
+    ensures { λ r. ⌜ (numberOf r, lengthOf r, now (out .exit)) ≡ delivered (framed after (now (ty .entry)) (now (value .entry))) (now (out .entry)) ⌝ }
+{
+    let mut ends = [0usize; 1024];
+    let mut sizes = [0usize; 1024];
+    let mut widths = [0usize; 1024];
+    match tabulate(ty, &mut ends, &mut sizes, &mut widths) {
+        TypeAnswer::Refused(x) => Reply::Refused(x),
+        TypeAnswer::Ok(_) => match check_file(ty, &ends, value) {
+            Checked::Bad(x) => Reply::Refused(x),
+            Checked::Next(_, _) => {
+                let len = (widths[0] + 7) / 8;
+                if out.len() < len {
+                    return Reply::Refused(Refusal::NoRoom);
+                }
+                Reply::Done(frame::write_frame(ty, &ends, &widths, value, out))
+            }
+        },
+    }
+}
+
+// Writes the value file of an accepted frame over the front of `out`, and answers its length; every byte behind it stays, and all of them where it is refused.
+pub fn read_frame(ty: &[u8], frame: &[u8], out: &mut [u8]) -> Reply
+    ensures { λ r. ⌜ (numberOf r, lengthOf r, now (out .exit)) ≡ delivered (unframed after (now (ty .entry)) (now (frame .entry))) (now (out .entry)) ⌝ }
+{
+    let mut ends = [0usize; 1024];
+    let mut sizes = [0usize; 1024];
+    let mut widths = [0usize; 1024];
+    match tabulate(ty, &mut ends, &mut sizes, &mut widths) {
+        TypeAnswer::Refused(x) => Reply::Refused(x),
+        TypeAnswer::Ok(_) => match accept(ty, &ends, &widths, frame) {
+            Accepted::Refused(x) => Reply::Refused(x),
+            Accepted::Records(n) => {
+                let len = n * 36;
+                if out.len() < len {
+                    return Reply::Refused(Refusal::NoRoom);
+                }
+                Reply::Done(unframe::write_value(ty, &ends, &widths, frame, out))
+            }
         },
     }
 }

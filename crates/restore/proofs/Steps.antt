@@ -1,10 +1,9 @@
 -- The steps of the writers, in the form in which the code's needs ask them.
 use mathlib.Core.Path.{_≡_, refl, sym, ap, ap₂, subst, _∙_}
-use mathlib.Core.Bool.{Bool}
+use mathlib.Core.Bool.{Bool, true, false}
 use mathlib.Core.List.{List, [], _∷_, _++_}
-use mathlib.Core.Option.{Option, some, Option·some-injective}
+use mathlib.Core.Option.{Option, some, Option·none-ne-some, Option·some-injective}
 use Prim.Native.Nat.{ℕ, zero, suc, _+_, _-_, _^_, _≤_, _<_}
-use native.Mathlib.Nat.{zero-add, suc-add}
 use native.Mathlib.Omega.{arith}
 use mir.Syntax.{w64}
 use mir.Val.{Fits}
@@ -18,7 +17,9 @@ use Rattle.num.specs.declared.Bound.the-variants as bounds
 use Rattle.num.specs.Powers.{half-bound}
 use Rattle.model.specs.Options.{mapO}
 use Rattle.model.specs.Bytes.{of-bits}
-use Rattle.model.specs.ValueFiles.{Rec, rec}
+use Rattle.model.specs.Structural.{SValue}
+use Rattle.model.specs.Reconstruct.{as-bit}
+use Rattle.model.specs.ValueFiles.{Rec, rec, bit-number}
 use Rattle.model.specs.Laws.Options.{mapO-some}
 use Rattle.types.specs.declared.Head.{Head}
 use Rattle.types.specs.declared.Head.the-variants.{Missing, Faulty, Never, Boolean, UInt, Either, Opt, Tuple, Array, Listed, Variants}
@@ -34,26 +35,28 @@ use Rattle.types.specs.Steps.{given-levels, given-within, given-inside}
 use Rattle.told.specs.declared.Parts.{Parts}
 use Rattle.told.specs.declared.Parts.the-variants.{Copies, Types}
 use Rattle.told.specs.Forms.{after, skip, GivenParts, hops, Hops}
+use Rattle.told.specs.Laws.Trees.{skip-add, given-one, given-left, given-right}
 use Rattle.record.specs.Marks.{mark-of, Marks, bytes, written}
 use Rattle.record.specs.declared.Form.{Form}
 use Rattle.record.specs.declared.Form.the-variants as form
-use Rattle.restore.specs.declared.Numbered.{Numbered}
-use Rattle.record.specs.Trees.{bit-row, product, sum, blocked, elements}
+use Rattle.record.specs.Trees.{part, bit-row, product, sum, blocked, elements}
 use Rattle.record.specs.Forms.{form-of}
+use Rattle.record.specs.Laws.Formed.{NothingRead, BitRead, IntegerRead, PayloadRead}
+use Rattle.record.specs.Laws.Sums.{sum-below, elements-below}
+use Rattle.restore.specs.declared.Numbered.{Numbered}
 use Rattle.restore.specs.Forms.{tree-at, made-at, standing, Given, Found, Ends, Ready, ReadyNumbered, Placed, PlacedNumbered, Whole, BitsPlaced, IntegerPlaced}
-use Rattle.restore.specs.Laws.Splits.{OneBit, bit-row-one, BitSides, bit-row-sides, NoParts, product-none, none-product, product-one, ProductSides, product-sides}
+use Rattle.restore.specs.Laws.Made.{MadeOf, made-as, made-same, made-of}
+use Rattle.restore.specs.Laws.Splits.{Bit, bit-at, OneBit, bit-row-one, BitSides, bit-row-sides, product-none, none-product, product-one, ProductSides, product-sides}
 use Rattle.restore.specs.Laws.Turns.{Only, sum-one, Leftwards, Rightwards, sum-left, sum-right, sum-inside}
 use Rattle.restore.specs.Laws.Lists.{Empty, Full, block-inside, block-left, block-right, list-two, Halves, list-more}
-use Rattle.restore.specs.Laws.Sums.{elements-less}
 use Rattle.restore.specs.Laws.Writing.{first-room, first-fits, second-room, both-done, both-small, record-room, below-room, below-length, record-small, record-done, record-alone, returned, integer-put}
-use Rattle.restore.specs.Laws.Formed.{BitGiven, IntegerGiven}
 
 -- what is found there is one thing
 module _ {A : Type 0} {g : Given A} {a c : A} {e n : ℕ} (h : g ≡ some (a, e)) (k : g ≡ some (c, n)) where
-  pub same-what : a ≡ c
+  same-what : a ≡ c
   same-what = ap (λ (y : A × ℕ). y .0) (Option·some-injective _ _ (sym h ∙ k))
 
-  pub same-end : e ≡ n
+  same-end : e ≡ n
   same-end = ap (λ (y : A × ℕ). y .1) (Option·some-injective _ _ (sym h ∙ k))
 
 -- the left side has at least one part, and so has the right side
@@ -79,6 +82,10 @@ module _ {d : ℕ} {s E : List ℕ} {p : ℕ} (g : Stands d s E p) where
 
 -- BITS
 
+right-bit : {n : ℕ} (b : Bool) → n ≡ suc (bit-number b) → eqb n 2 ≡ b
+right-bit false e = ap (λ n. eqb n 2) e
+right-bit true e = ap (λ n. eqb n 2) e
+
 module _ (sh : List ℕ) (n q : ℕ) (g : Found (made-at sh (bit-row n) q)) where
   one-bit : n ≡ 1 → OneBit sh q (g .what) (g .end)
   one-bit z = bit-row-one sh n q (g .what) (g .end) z (g .there)
@@ -92,7 +99,7 @@ module _ (sh : List ℕ) (n q : ℕ) (g : Found (made-at sh (bit-row n) q)) wher
   pub bit-placed : {before after : List ℕ} {j : ℕ} → n ≡ 1 → bits.Wrote before j (eqb (getD sh q 0) 2 ∷ []) after → BitsPlaced (made-at sh (bit-row n) q) before j after (q + 2)
   bit-placed z w =
       let o = one-bit z in
-      record { bools = g .what; there = g .there ∙ ap (λ e. some (g .what, e)) (o .there .end); wrote = wrote-same w (ap (λ (b : Bool). b ∷ []) (sym (o .there .side)) ∙ sym (o .same)) }
+      record { bools = g .what; there = g .there ∙ ap (λ e. some (g .what, e)) (o .there .end); wrote = wrote-same w (ap (λ (b : Bool). b ∷ []) (right-bit (o .bit) (o .there .side)) ∙ sym (o .same)) }
 
   module _ {few : ℕ} (h : Shares n few) where
     bit-sides : BitSides sh n few q (g .what) (g .end)
@@ -124,11 +131,6 @@ module _ (sh : List ℕ) (n q : ℕ) (g : Found (made-at sh (bit-row n) q)) wher
 -- PARTS
 
 module _ (k : Parts) (d : ℕ) (s : List ℕ) where
-  skip-add : (m n p : ℕ) → skip k d s (m + n) p ≡ skip k d s n (skip k d s m p)
-  unfolding skip
-  skip-add zero n p = ap (λ i. skip k d s i p) (zero-add n)
-  skip-add (suc m) n p = ap (λ i. skip k d s i p) (suc-add m n) ∙ skip-add m n (after k d s p)
-
   pub skip-none : (n p : ℕ) → n ≡ 0 → p ≡ skip k d s n p
   unfolding skip
   skip-none n p z = ap (λ i. skip k d s i p) (sym z)
@@ -145,19 +147,18 @@ module _ (k : Parts) (d : ℕ) (s : List ℕ) where
   skip-both {n} {few} h p e f =
       let l = h .less in
       let m : few + (n - few) ≡ n = omega arith in
-      f ∙ ap (skip k d s (n - few)) e ∙ sym (skip-add few (n - few) p) ∙ ap (λ i. skip k d s i p) m
+      f ∙ ap (skip k d s (n - few)) e ∙ sym (skip-add k d s few (n - few) p) ∙ ap (λ i. skip k d s i p) m
 
 module _ {k : Parts} {d : ℕ} {s E : List ℕ} {n p : ℕ} (g : GivenParts k d s E n p) where
   pub one-given : n ≡ 1 → Stands d s E p
-  unfolding skip
-  one-given z = g .each 0 (omega arith)
+  one-given z = given-one g (omega arith)
 
   module _ {few : ℕ} (h : Shares n few) where
     pub left-given : GivenParts k d s E few p
-    left-given = let l = h .less in record { each = λ i m. g .each i (omega arith) }
+    left-given = let l = h .less in given-left g few (omega arith)
 
     pub right-given : {a : ℕ} → a ≡ skip k d s few p → GivenParts k d s E (n - few) a
-    right-given e = let l = h .less in rw e (record { each = λ i m. rw (← skip-add k d s few i p) (g .each (few + i) (omega arith)) })
+    right-given e = let l = h .less in rw e (given-right g few (omega arith))
 
 -- the table tells where types and Variants stand
 hops-skip : {d : ℕ} {s E : List ℕ} (i n p : ℕ) → i ≤ n → GivenParts Types d s E n p → hops E i p ≡ skip Types d s i p
@@ -436,7 +437,7 @@ module _ (d : ℕ) (s sh : List ℕ) (b : NonZeroPow2Usize) (p q : ℕ) (out : L
           list-small = both-small (halves .firsts) (halves .seconds) out halves-room block-wrote list-wrote
 
           pub count-small : l .number + r .number < b .0
-          count-small = let m = all-counted in omega (arith, elements-less d s sh b p q ((g .number, g .recs), g .end) f (g .there))
+          count-small = let m = all-counted in let o = made-of sh (elements d s b p) q ((g .number, g .recs), g .end) (g .there) in omega (arith, elements-below d s b p (o .tree) (g .number, g .recs) f (o .made))
 
 -- A RECORD AND WHAT STANDS BELOW IT
 
@@ -448,11 +449,11 @@ pub record Under (r : Rec) (b g : Given (List Rec)) (out : List ℕ) : Type 0 wh
   pub all : g ≡ some (r ∷ recs, end)
   pub room : length (written (r ∷ recs)) ≤ length out
 
-pub under : {r : Rec} {b g : Given (List Rec)} {out : List ℕ} → Ready g out → g ≡ mapO (λ y. (r ∷ y .0, y .1)) b → Under r b g out
-under {r} {b} {g} {out} h e =
-    let (y, f, k) = mapO-some _ b (h .recs, h .end) (sym e ∙ h .there) in
-    let i = ap (λ (z : List Rec × ℕ). z .0) k in
-    record { recs = y .0; end = y .1; below = f; all = h .there ∙ ap some (sym k); room = subst (λ rs. length (written rs) ≤ length out) (sym i) (h .room) }
+pub under : (r : Rec) (sh : List ℕ) (d : ℕ) (s : List ℕ) (p q : ℕ) (f : SValue → Option (List Rec)) {out : List ℕ} → Ready (standing sh d s p q) out → ((x : SValue) → part d s p x ≡ mapO (λ rs. r ∷ rs) (f x)) → Under r (made-at sh f q) (standing sh d s p q) out
+unfolding standing
+under r sh d s p q f {out} h e =
+    let (y, i, k) = mapO-some _ (made-at sh f q) (h .recs, h .end) (sym (made-as sh (part d s p) f (λ rs. r ∷ rs) q e) ∙ h .there) in
+    record { recs = y .0; end = y .1; below = i; all = h .there ∙ ap some (sym k); room = subst (λ (z : List Rec × ℕ). length (written (z .0)) ≤ length out) (sym k) (h .room) }
 
 module _ {r : Rec} {b g : Given (List Rec)} {out : List ℕ} (u : Under r b g out) where
   pub under-start : 36 ≤ length out
@@ -475,7 +476,7 @@ module _ {r : Rec} {b g : Given (List Rec)} {out : List ℕ} (u : Under r b g ou
     under-placed {o} e = record { recs = r ∷ u .recs; there = u .all ∙ ap (λ i. some (r ∷ u .recs, i)) (same-end (u .below) (v .there)); wrote = record-done r (u .recs) out (u .room) under-wrote o e }
 
 -- the number of what has one, left out
-abbrev pub plain : Given (ℕ × List Rec) → Given (List Rec)
+abbrev plain : Given (ℕ × List Rec) → Given (List Rec)
 plain b = mapO (λ y. (y .0 .1, y .1)) b
 
 -- likewise where r is told by the number
@@ -487,11 +488,11 @@ pub record UnderNumbered (f : ℕ → Rec) (b : Given (ℕ × List Rec)) (g : Gi
   pub all : g ≡ some (f number ∷ recs, end)
   pub room : length (written (f number ∷ recs)) ≤ length out
 
-pub under-numbered : {f : ℕ → Rec} {b : Given (ℕ × List Rec)} {g : Given (List Rec)} {out : List ℕ} → Ready g out → g ≡ mapO (λ y. (f (y .0 .0) ∷ y .0 .1, y .1)) b → UnderNumbered f b g out
-under-numbered {f} {b} {g} {out} h e =
-    let (y, m, k) = mapO-some _ b (h .recs, h .end) (sym e ∙ h .there) in
-    let i = ap (λ (z : List Rec × ℕ). z .0) k in
-    record { number = y .0 .0; recs = y .0 .1; end = y .1; below = m; all = h .there ∙ ap some (sym k); room = subst (λ rs. length (written rs) ≤ length out) (sym i) (h .room) }
+pub under-numbered : (m : ℕ → Rec) (sh : List ℕ) (d : ℕ) (s : List ℕ) (p q : ℕ) (f : SValue → Option (ℕ × List Rec)) {out : List ℕ} → Ready (standing sh d s p q) out → ((x : SValue) → part d s p x ≡ mapO (λ y. m (y .0) ∷ y .1) (f x)) → UnderNumbered m (made-at sh f q) (standing sh d s p q) out
+unfolding standing
+under-numbered m sh d s p q f {out} h e =
+    let (y, i, k) = mapO-some _ (made-at sh f q) (h .recs, h .end) (sym (made-as sh (part d s p) f (λ y. m (y .0) ∷ y .1) q e) ∙ h .there) in
+    record { number = y .0 .0; recs = y .0 .1; end = y .1; below = i; all = h .there ∙ ap some (sym k); room = subst (λ (z : List Rec × ℕ). length (written (z .0)) ≤ length out) (sym k) (h .room) }
 
 module _ {f : ℕ → Rec} {b : Given (ℕ × List Rec)} {g : Given (List Rec)} {out : List ℕ} (u : UnderNumbered f b g out) where
   as-under : Under (f (u .number)) (plain b) g out
@@ -507,7 +508,7 @@ module _ {f : ℕ → Rec} {b : Given (ℕ × List Rec)} {g : Given (List Rec)} 
     as-placed : Placed (plain b) (rest 36 out) p (r .next) (r .len)
     as-placed = record { recs = v .recs; there = ap plain (v .there); wrote = v .wrote }
 
-    pub numbered-is : r .number ≡ u .number
+    numbered-is : r .number ≡ u .number
     numbered-is = let c = v .counted in let e = ap (λ (y : ℕ × List Rec). y .0) (same-what (v .there) (u .below)) in omega arith
 
     pub numbered-back : 36 ≤ length (back 36 out p)
@@ -523,6 +524,16 @@ module _ {f : ℕ → Rec} {b : Given (ℕ × List Rec)} {g : Given (List Rec)} 
 
 no-form : {A : Type 0} → _≡_ {A = ℕ} 0 1 → A
 no-form z = absurd (omega arith)
+
+-- the bit at a place, and its record
+record BitThere (sh : List ℕ) (q : ℕ) (rs : List Rec) (e : ℕ) : Type 0 where
+  value : Bool
+  bit : Bit sh q value e
+  same : rs ≡ rec 1 (getD sh q 0 - 1) 0 0 ∷ []
+
+bit-small : (b : Bool) → bit-number b ≤ 1
+bit-small false = omega arith
+bit-small true = omega arith
 
 pub side-fits : (n : ℕ) → n ≤ 2 → Fits w64 n
 side-fits n l = omega arith
@@ -560,33 +571,82 @@ integer-mark (head.Payload n) w e = no-form cc
 alone-room : {g : Given (List Rec)} {out : List ℕ} (r : Rec) (e : ℕ) → Ready g out → g ≡ some (r ∷ [], e) → 36 ≤ length out
 alone-room {out = out} r e h k = record-room r [] out (subst (λ rs. length (written rs) ≤ length out) (same-what (h .there) k) (h .room))
 
-module _ {d : ℕ} {s sh : List ℕ} {p q : ℕ} {out : List ℕ} (h : Head) (r : Form) (g : Ready (standing sh d s p q) out) (e : r ≡ form-of h) where
-  module _ (t : r ≡ form.Bit) (b : BitGiven d s sh p q) where
+module _ (d : ℕ) (s sh : List ℕ) (p q : ℕ) (out : List ℕ) (g : Ready (standing sh d s p q) out) where
+  tree-there : MadeOf sh (part d s p) q (g .recs, g .end)
+  unfolding standing
+  tree-there = made-of sh (part d s p) q (g .recs, g .end) (g .there)
+
+  pub nothing-there : NothingRead d s p → ⊥
+  nothing-there n = Option·none-ne-some (g .recs) (sym (n .same (tree-there .tree)) ∙ tree-there .made)
+
+  pub payload-is : {n : ℕ} {E : List ℕ} → PayloadRead n d s E p → standing sh d s p q ≡ made-at sh (product Types (d - 1) s n (p + 1)) q
+  unfolding standing
+  payload-is {n} b = made-same sh (part d s p) (product Types (d - 1) s n (p + 1)) q (b .same)
+
+  module _ (b : BitRead d s p) where
+    bit-there : BitThere sh q (g .recs) (g .end)
+    bit-there =
+        let m = tree-there in
+        let (x, f, k) = mapO-some _ (as-bit (m .tree)) (g .recs) (sym (b .same (m .tree)) ∙ m .made) in
+        let c = bit-at (m .tree) (m .stood) f in
+        let l = c .side in
+        let n : bit-number x ≡ getD sh q 0 - 1 = omega arith in
+        record { value = x; bit = c; same = sym k ∙ ap (λ i. rec 1 i 0 0 ∷ []) n }
+
+    pub side-some : 1 ≤ getD sh q 0
+    side-some = let l = bit-there .bit .side in omega arith
+
+    pub side-few : getD sh q 0 ≤ 2
+    side-few = let l = bit-there .bit .side in omega (arith, bit-small (bit-there .value))
+
+    pub side-inside : q + 1 < length sh
+    side-inside = bit-there .bit .inside
+
+    bit-is : standing sh d s p q ≡ some (rec 1 (getD sh q 0 - 1) 0 0 ∷ [], q + 2)
+    bit-is = g .there ∙ ap₂ (λ rs e. some (rs, e)) (bit-there .same) (bit-there .bit .end)
+
     pub bit-room : 36 ≤ length out
-    bit-room = alone-room (rec 1 (getD sh q 0 - 1) 0 0) (q + 2) g (b .same)
+    bit-room = alone-room (rec 1 (getD sh q 0 - 1) 0 0) (q + 2) g bit-is
 
-    pub bit-marks : Marks h (getD sh q 0 - 1)
-    bit-marks = let l = b .side in bit-mark h (getD sh q 0 - 1) (sym t ∙ e) .1 (omega arith)
+    module _ (h : Head) (r : Form) (e : r ≡ form-of h) (t : r ≡ form.Bit) where
+      pub bit-marks : Marks h (getD sh q 0 - 1)
+      bit-marks = let l = side-few in bit-mark h (getD sh q 0 - 1) (sym t ∙ e) .1 (omega arith)
 
-    pub bit-done : {o : List ℕ} → o ≡ put (bytes (mark-of h (getD sh q 0 - 1))) out → Placed (standing sh d s p q) out o (q + 2) 36
-    bit-done {o} f = record { recs = rec 1 (getD sh q 0 - 1) 0 0 ∷ []; there = b .same; wrote = record-alone (rec 1 (getD sh q 0 - 1) 0 0) out o (f ∙ ap (λ r. put (bytes r) out) (bit-mark h (getD sh q 0 - 1) (sym t ∙ e) .0)) }
+      pub bit-done : {o : List ℕ} → o ≡ put (bytes (mark-of h (getD sh q 0 - 1))) out → Placed (standing sh d s p q) out o (q + 2) 36
+      bit-done {o} f = record { recs = rec 1 (getD sh q 0 - 1) 0 0 ∷ []; there = bit-is; wrote = record-alone (rec 1 (getD sh q 0 - 1) 0 0) out o (f ∙ ap (λ r. put (bytes r) out) (bit-mark h (getD sh q 0 - 1) (sym t ∙ e) .0)) }
 
-  module _ {w : ℕ} (t : r ≡ form.Integer w) (b : IntegerGiven w d s sh p q) where
+  module _ {w : ℕ} (b : IntegerRead w d s p) where
+    integer-same : standing sh d s p q ≡ mapO (λ y. (rec 2 0 w (of-bits (y .0)) ∷ [], y .1)) (made-at sh (bit-row w) q)
+    unfolding standing
+    integer-same = made-as sh (part d s p) (bit-row w) (λ bs. rec 2 0 w (of-bits bs) ∷ []) q (b .same)
+
     pub integer-found : Found (made-at sh (bit-row w) q)
-    integer-found = let (y, f, k) = mapO-some _ (made-at sh (bit-row w) q) (g .recs, g .end) (sym (b .same) ∙ g .there) in record { what = y .0; end = y .1; there = f }
+    integer-found = let (y, f, k) = mapO-some _ (made-at sh (bit-row w) q) (g .recs, g .end) (sym integer-same ∙ g .there) in record { what = y .0; end = y .1; there = f }
 
     integer-is : (bs : List Bool) (n : ℕ) → made-at sh (bit-row w) q ≡ some (bs, n) → standing sh d s p q ≡ some (rec 2 0 w (of-bits bs) ∷ [], n)
-    integer-is bs n f = b .same ∙ ap (mapO (λ (y : List Bool × ℕ). (rec 2 0 w (of-bits (y .0)) ∷ [], y .1))) f
+    integer-is bs n f = integer-same ∙ ap (mapO (λ (y : List Bool × ℕ). (rec 2 0 w (of-bits (y .0)) ∷ [], y .1))) f
 
     pub integer-room : 36 ≤ length out
     integer-room = let i = integer-found in alone-room (rec 2 0 w (of-bits (i .what))) (i .end) g (integer-is (i .what) (i .end) (i .there))
 
-    pub integer-marks : Marks h 0
-    integer-marks = integer-mark h w (sym t ∙ e) .1
+    module _ (h : Head) (r : Form) (e : r ≡ form-of h) (t : r ≡ form.Integer w) where
+      pub integer-marks : Marks h 0
+      integer-marks = integer-mark h w (sym t ∙ e) .1
 
-    pub integer-done : {o x : List ℕ} {next : ℕ} → o ≡ put (bytes (mark-of h 0)) out → IntegerPlaced (made-at sh (bit-row w) q) x next → Placed (standing sh d s p q) out (returned o x) next 36
-    integer-done {o} {x} {next} f v = record {
-      recs = rec 2 0 w (of-bits (v .bools)) ∷ [];
-      there = integer-is (v .bools) next (v .there);
-      wrote = record-alone (rec 2 0 w (of-bits (v .bools))) out (returned o x) (integer-put w (of-bits (v .bools)) out o x (f ∙ ap (λ r. put (bytes r) out) (integer-mark h w (sym t ∙ e) .0)) (v .same));
-    }
+      pub integer-done : {o x : List ℕ} {next : ℕ} → o ≡ put (bytes (mark-of h 0)) out → IntegerPlaced (made-at sh (bit-row w) q) x next → Placed (standing sh d s p q) out (returned o x) next 36
+      integer-done {o} {x} {next} f v = record {
+        recs = rec 2 0 w (of-bits (v .bools)) ∷ [];
+        there = integer-is (v .bools) next (v .there);
+        wrote = record-alone (rec 2 0 w (of-bits (v .bools))) out (returned o x) (integer-put w (of-bits (v .bools)) out o x (f ∙ ap (λ r. put (bytes r) out) (integer-mark h w (sym t ∙ e) .0)) (v .same));
+      }
+
+-- the choice that was written is one of them, and the elements are fewer than the bound
+pub choice-below : {m : ℕ → Rec} (sh : List ℕ) (d : ℕ) (s E : List ℕ) (n p q : ℕ) {g : Given (List Rec)} {out x : List ℕ} {r : Numbered} (u : UnderNumbered m (made-at sh (sum d s E n p) q) g out) → 1 ≤ n → PlacedNumbered (made-at sh (sum d s E n p) q) 0 (rest 36 out) x r → r .number < n
+choice-below sh d s E n p q u l v =
+    let o = made-of sh (sum d s E n p) q ((u .number, u .recs), u .end) (u .below) in
+    omega (arith, numbered-is u v, sum-below d s E n p (o .tree) (u .number, u .recs) l (o .made))
+
+pub count-below : {m : ℕ → Rec} (sh : List ℕ) (d : ℕ) (s : List ℕ) (b : NonZeroPow2Usize) (p q : ℕ) {g : Given (List Rec)} {out x : List ℕ} {r : Numbered} (u : UnderNumbered m (made-at sh (elements d s b p) q) g out) → FairBound b → PlacedNumbered (made-at sh (elements d s b p) q) 0 (rest 36 out) x r → r .number < b .0
+count-below sh d s b p q u f v =
+    let o = made-of sh (elements d s b p) q ((u .number, u .recs), u .end) (u .below) in
+    omega (arith, numbered-is u v, elements-below d s b p (o .tree) (u .number, u .recs) f (o .made))

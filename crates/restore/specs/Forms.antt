@@ -7,18 +7,15 @@ use mathlib.Core.Option.{Option, some}
 use Prim.Native.Nat.{ℕ, _+_, _≤_}
 use lib.ListN.{length, drop}
 use Rattle.model.specs.Options.{mapO, bindO}
+use Rattle.model.specs.Bytes.{of-bits, in-bytes}
 use Rattle.model.specs.Structural.{SValue, shape-records}
 use Rattle.model.specs.ShapeFiles.{read-shape}
-use Rattle.model.specs.Reconstruct.{reconstruct}
 use Rattle.model.specs.ValueFiles.{Rec}
-use Rattle.types.specs.Trees.{tree}
-use Rattle.told.specs.Forms.{after}
-use Rattle.record.specs.Marks.{written}
 use Rattle.structural.specs.Writing.{Wrote}
 use Rattle.bits.specs.Bits as bits
-use Rattle.model.specs.Bytes.{of-bits, in-bytes}
-use Rattle.restore.specs.declared.Numbered.{Numbered}
+use Rattle.record.specs.Marks.{written}
 use Rattle.record.specs.Trees.{part}
+use Rattle.restore.specs.declared.Numbered.{Numbered}
 
 -- THE TREES OF A SHAPE FILE
 
@@ -34,10 +31,11 @@ tree-at sh q = mapO (λ x. (x .0, q + length (shape-records (x .0)))) (read-shap
 unfoldable pub made-at : {A : Type 0} → List ℕ → (SValue → Option A) → ℕ → Given A
 made-at sh f q = bindO (tree-at sh q) (λ x. mapO (λ a. (a, x .1)) (f (x .0)))
 
--- AT A PLACE OF A SHAPE FILE
-
+-- its records, as one of what stands at record p of a type file with d levels from there on
 unfoldable pub standing : List ℕ → ℕ → List ℕ → ℕ → ℕ → Given (List Rec)
 standing sh d s p q = made-at sh (part d s p) q
+
+-- WHAT THE CONTRACTS SAY
 
 -- something stands there
 pub record Found {A : Type 0} (g : Given A) : Type 0 where

@@ -1,10 +1,7 @@
 pub mod Made
-pub mod Bits
-pub mod Sums
-pub mod Formed
-pub mod Whole
 pub mod Places
 pub mod Splits
 pub mod Turns
 pub mod Lists
 pub mod Writing
+pub mod Whole

@@ -12,6 +12,7 @@ use record::form_of;
 use record::write_mark;
 use told::Parts;
 use told::hop;
+use types::Head;
 use types::head_at;
 ghost use mathlib.Core.Path.{_≡_};
 ghost use mathlib.Core.Bool.{false};
@@ -23,7 +24,6 @@ ghost use Rattle.structural.specs.Forms.{Stands};
 ghost use Rattle.told.specs.declared.Parts.the-variants.{Types};
 ghost use Rattle.told.specs.Forms.{GivenParts, skip};
 ghost use Rattle.record.specs.Trees.{bit-row, product, sum, blocked, elements};
-ghost use Rattle.record.specs.Forms.{form-of};
 ghost use Rattle.restore.specs.Forms.{tree-at, made-at, standing, Found, Ends, Ready, ReadyNumbered, Placed, PlacedNumbered, Whole, BitsPlaced, IntegerPlaced};
 
 // The records of a shape that are looked at.

@@ -23,7 +23,7 @@ const SUM: u8 = 1;
 const PRODUCT: u8 = 2;
 
 // What the parts of a balanced tree are, and where they stand in the type file.
-enum Parts {
+pub enum Parts {
     // the bits of an integer, all of them told by its one record
     Bits,
     // the parts of an array, all of them told by the one type below it

@@ -193,7 +193,7 @@ some-of k z n =
     both (eqb k 9) _ _ (λ e. tt) (λ e. tt)))))))))))
     (λ e. tt)
 
-some-variants : (s : List ℕ) (i : ℕ) → headAt s i ≡ Variants 0 → ⊥
+pub some-variants : (s : List ℕ) (i : ℕ) → headAt s i ≡ Variants 0 → ⊥
 unfolding headAt
 some-variants s i e = subst Some e (both (ltb i (length s / 4)) _ _ (λ h. some-of _ _ _) (λ h. tt)) refl
 

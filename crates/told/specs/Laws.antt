@@ -9,3 +9,4 @@ pub mod Formed
 pub mod Whole
 pub mod Trees
 pub mod Lists
+pub mod Widths

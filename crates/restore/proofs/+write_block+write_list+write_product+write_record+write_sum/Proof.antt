@@ -5,8 +5,6 @@
 --     a list       likewise a block of half the bound, and the list with that bound (`list-more`)
 -- A call goes a level down, or stays on its level with fewer parts or half the bound: a level weighs more than all counts and bounds.
 -- Assumes nothing.
-use mathlib.Core.Path.{_≡_, refl, sym, ap, _∙_}
-use mathlib.Core.List.{List}
 use Prim.Native.Nat.{ℕ, _+_, _-_, _*_, _^_, _<_}
 use native.Mathlib.Omega.{arith}
 use borrow.Author.Needs.{needs}
@@ -16,12 +14,11 @@ use Rattle.structural.specs.Laws.Bounds.{bound-small}
 use Rattle.told.specs.Laws.Rows.{given-copies}
 use Rattle.record.specs.Marks.{mark-of}
 use Rattle.record.specs.Trees.{product, sum, elements}
+use Rattle.record.specs.Laws.Formed.{BitRead, IntegerRead, ProductRead, SumRead, ListRead, PayloadRead, as-nothing, as-boolean, as-integer, as-product, as-sum, as-list, as-payload}
 use Rattle.restore.specs.Forms.{made-at, standing}
-use Rattle.restore.specs.Laws.Formed.{BitGiven, IntegerGiven, ProductGiven, SumGiven, ListGiven, PayloadGiven, as-nothing, as-bit, as-integer, as-product, as-sum, as-list, as-payload}
 use Rattle.restore.specs.Laws.Lists.{Halves}
-use Rattle.restore.specs.Laws.Sums.{sum-less, elements-less}
 use Rattle.restore.specs.Laws.Writing.{lent-length}
-use Rattle.restore.proofs.Steps.{level-some, next-fits, stands-inside, Shares, shares, skip-none, skip-copy, skip-type, skip-both, one-given, left-given, right-given, given-hops, hopped-given, none-found, none-placed, one-ready, one-placed, parts-fit, left-ready, left-fits, right-ready, sides-placed, sides-small, ready-as, placed-as, placed-length, numbered-length, only-ready, only-placed, choice-inside, choice-fits, first-ready, first-placed, others-ready, others-placed, block-starts, block-fits, empty-fits, empty-placed, full-ready, full-placed, two-ready, two-placed, halves, list-fits, block-ready, block-ends, list-ready, list-placed, list-small, count-small, Under, under, under-start, under-ready, under-back, under-small, under-placed, UnderNumbered, under-numbered, numbered-start, numbered-ready, numbered-is, numbered-back, numbered-small, numbered-placed, bit-room, side-fits, bit-marks, bit-done, integer-found, integer-room, integer-marks, integer-done}
+use Rattle.restore.proofs.Steps.{level-some, next-fits, stands-inside, Shares, shares, skip-none, skip-copy, skip-type, skip-both, one-given, left-given, right-given, given-hops, hopped-given, none-found, none-placed, one-ready, one-placed, parts-fit, left-ready, left-fits, right-ready, sides-placed, sides-small, ready-as, placed-as, placed-length, numbered-length, only-ready, only-placed, choice-inside, choice-fits, first-ready, first-placed, others-ready, others-placed, block-starts, block-fits, empty-fits, empty-placed, full-ready, full-placed, two-ready, two-placed, halves, list-fits, block-ready, block-ends, list-ready, list-placed, list-small, count-small, Under, under, under-start, under-ready, under-back, under-small, under-placed, UnderNumbered, under-numbered, numbered-start, numbered-ready, numbered-back, numbered-small, numbered-placed, nothing-there, payload-is, choice-below, count-below, side-some, side-few, side-inside, bit-room, side-fits, bit-marks, bit-done, integer-found, integer-room, integer-marks, integer-done}
 use Rattle.restore.proofs.write_block.Reads as write-block
 use Rattle.restore.proofs.write_block.Kinds as write-block-kinds
 use Rattle.restore.proofs.+write_block+write_list+write_product+write_record+write_sum.Lts-write_block as write-block-lts
@@ -224,51 +221,51 @@ module _ (t : ℕ) where
   record-start c = c .before .before .before .before .before .before
 
   -- what the record's form says
-  bit-here : (c : write-record-lts.After-enum-told2 write-record-calls write-record-at write-record.Post) → BitGiven (record-start (c .before .before) .args .level) (record-start (c .before .before) .args .ty .now) (record-start (c .before .before) .args .shape .now) (record-start (c .before .before) .args .at) (record-start (c .before .before) .args .q)
-  bit-here c = as-bit (record-start (c .before .before) .pre .1 .0) (record-start (c .before .before) .pre .1 .1 .there) (c .before .before .before .head-at .ensures .0) (c .before .before .before .head-at .ensures .1) (c .before .before .form-of .ensures) (c .enum-told2 .given .1)
+  bit-here : (c : write-record-lts.After-enum-told2 write-record-calls write-record-at write-record.Post) → BitRead (record-start (c .before .before) .args .level) (record-start (c .before .before) .args .ty .now) (record-start (c .before .before) .args .at)
+  bit-here c = as-boolean (record-start (c .before .before) .pre .1 .0) (c .before .before .before .head-at .ensures .0) (c .before .before .before .head-at .ensures .1) (c .before .before .form-of .ensures) (c .enum-told2 .given .1)
 
-  integer-here : (c : write-record-lts.After-w write-record-calls write-record-at write-record.Post) → IntegerGiven (c .w .given .0 .0) (record-start (c .before .before) .args .level) (record-start (c .before .before) .args .ty .now) (record-start (c .before .before) .args .shape .now) (record-start (c .before .before) .args .at) (record-start (c .before .before) .args .q)
-  integer-here c = as-integer (record-start (c .before .before) .pre .1 .0) (record-start (c .before .before) .pre .1 .1 .there) (c .before .before .before .head-at .ensures .0) (c .before .before .before .head-at .ensures .1) (c .before .before .form-of .ensures) (c .w .given .1)
+  integer-here : (c : write-record-lts.After-w write-record-calls write-record-at write-record.Post) → IntegerRead (c .w .given .0 .0) (record-start (c .before .before) .args .level) (record-start (c .before .before) .args .ty .now) (record-start (c .before .before) .args .at)
+  integer-here c = as-integer (record-start (c .before .before) .pre .1 .0) (c .before .before .before .head-at .ensures .0) (c .before .before .before .head-at .ensures .1) (c .before .before .form-of .ensures) (c .w .given .1)
 
-  product-here : (c : write-record-lts.After-parts write-record-calls write-record-at write-record.Post) → ProductGiven (c .before .before .before .head-at .result) (c .parts .given .0 .0) (c .parts .given .0 .1 .0) (record-start (c .before .before) .args .level) (record-start (c .before .before) .args .ty .now) (record-start (c .before .before) .args .ends .now) (record-start (c .before .before) .args .shape .now) (record-start (c .before .before) .args .at) (record-start (c .before .before) .args .q)
-  product-here c = as-product (record-start (c .before .before) .pre .1 .0) (record-start (c .before .before) .pre .1 .1 .there) (c .before .before .before .head-at .ensures .0) (c .before .before .before .head-at .ensures .1) (c .before .before .form-of .ensures) (c .parts .given .1)
+  product-here : (c : write-record-lts.After-parts write-record-calls write-record-at write-record.Post) → ProductRead (c .before .before .before .head-at .result) (c .parts .given .0 .0) (c .parts .given .0 .1 .0) (record-start (c .before .before) .args .level) (record-start (c .before .before) .args .ty .now) (record-start (c .before .before) .args .ends .now) (record-start (c .before .before) .args .at)
+  product-here c = as-product (record-start (c .before .before) .pre .1 .0) (c .before .before .before .head-at .ensures .0) (c .before .before .before .head-at .ensures .1) (c .before .before .form-of .ensures) (c .parts .given .1)
 
-  sum-here : (c : write-record-lts.After-n write-record-calls write-record-at write-record.Post) → SumGiven (c .before .before .before .head-at .result) (c .n .given .0 .0) (record-start (c .before .before) .args .level) (record-start (c .before .before) .args .ty .now) (record-start (c .before .before) .args .ends .now) (record-start (c .before .before) .args .shape .now) (record-start (c .before .before) .args .at) (record-start (c .before .before) .args .q)
-  sum-here c = as-sum (record-start (c .before .before) .pre .1 .0) (record-start (c .before .before) .pre .1 .1 .there) (c .before .before .before .head-at .ensures .0) (c .before .before .before .head-at .ensures .1) (c .before .before .form-of .ensures) (c .n .given .1)
+  sum-here : (c : write-record-lts.After-n write-record-calls write-record-at write-record.Post) → SumRead (c .before .before .before .head-at .result) (c .n .given .0 .0) (record-start (c .before .before) .args .level) (record-start (c .before .before) .args .ty .now) (record-start (c .before .before) .args .ends .now) (record-start (c .before .before) .args .at)
+  sum-here c = as-sum (record-start (c .before .before) .pre .1 .0) (c .before .before .before .head-at .ensures .0) (c .before .before .before .head-at .ensures .1) (c .before .before .form-of .ensures) (c .n .given .1)
 
-  list-here : (c : write-record-lts.After-bound write-record-calls write-record-at write-record.Post) → ListGiven (c .before .before .before .head-at .result) (c .bound .given .0 .0) (record-start (c .before .before) .args .level) (record-start (c .before .before) .args .ty .now) (record-start (c .before .before) .args .ends .now) (record-start (c .before .before) .args .shape .now) (record-start (c .before .before) .args .at) (record-start (c .before .before) .args .q)
-  list-here c = as-list (record-start (c .before .before) .pre .1 .0) (record-start (c .before .before) .pre .1 .1 .there) (c .before .before .before .head-at .ensures .0) (c .before .before .before .head-at .ensures .1) (c .before .before .form-of .ensures) (c .bound .given .1)
+  list-here : (c : write-record-lts.After-bound write-record-calls write-record-at write-record.Post) → ListRead (c .before .before .before .head-at .result) (c .bound .given .0 .0) (record-start (c .before .before) .args .level) (record-start (c .before .before) .args .ty .now) (record-start (c .before .before) .args .ends .now) (record-start (c .before .before) .args .at)
+  list-here c = as-list (record-start (c .before .before) .pre .1 .0) (c .before .before .before .head-at .ensures .0) (c .before .before .before .head-at .ensures .1) (c .before .before .form-of .ensures) (c .bound .given .1)
 
-  payload-here : (c : write-record-lts.After-n2 write-record-calls write-record-at write-record.Post) → PayloadGiven (c .n2 .given .0 .0) (record-start (c .before .before) .args .level) (record-start (c .before .before) .args .ty .now) (record-start (c .before .before) .args .ends .now) (record-start (c .before .before) .args .shape .now) (record-start (c .before .before) .args .at) (record-start (c .before .before) .args .q)
-  payload-here c = as-payload (record-start (c .before .before) .pre .1 .0) (record-start (c .before .before) .pre .1 .1 .there) (c .before .before .before .head-at .ensures .0) (c .before .before .before .head-at .ensures .1) (c .before .before .form-of .ensures) (c .n2 .given .1)
+  payload-here : (c : write-record-lts.After-n2 write-record-calls write-record-at write-record.Post) → PayloadRead (c .n2 .given .0 .0) (record-start (c .before .before) .args .level) (record-start (c .before .before) .args .ty .now) (record-start (c .before .before) .args .ends .now) (record-start (c .before .before) .args .at)
+  payload-here c = as-payload (record-start (c .before .before) .pre .1 .0) (c .before .before .before .head-at .ensures .0) (c .before .before .before .head-at .ensures .1) (c .before .before .form-of .ensures) (c .n2 .given .1)
 
   -- its own record and what stands below it
   product-under : (c : write-record-lts.After-parts write-record-calls write-record-at write-record.Post) → Under (mark-of (c .before .before .before .head-at .result) (c .parts .given .0 .1 .0)) (made-at (record-start (c .before .before) .args .shape .now) (product (c .parts .given .0 .0) (record-start (c .before .before) .args .level - 1) (record-start (c .before .before) .args .ty .now) (c .parts .given .0 .1 .0) (record-start (c .before .before) .args .at + 1)) (record-start (c .before .before) .args .q)) (standing (record-start (c .before .before) .args .shape .now) (record-start (c .before .before) .args .level) (record-start (c .before .before) .args .ty .now) (record-start (c .before .before) .args .at) (record-start (c .before .before) .args .q)) (record-start (c .before .before) .args .out .now)
-  product-under c = under (record-start (c .before .before) .pre .1 .1) (product-here c .same)
+  product-under c = under _ _ _ _ _ _ _ (record-start (c .before .before) .pre .1 .1) (product-here c .same)
 
   sum-under : (c : write-record-lts.After-n write-record-calls write-record-at write-record.Post) → UnderNumbered (mark-of (c .before .before .before .head-at .result)) (made-at (record-start (c .before .before) .args .shape .now) (sum (record-start (c .before .before) .args .level - 1) (record-start (c .before .before) .args .ty .now) (record-start (c .before .before) .args .ends .now) (c .n .given .0 .0) (record-start (c .before .before) .args .at + 1)) (record-start (c .before .before) .args .q)) (standing (record-start (c .before .before) .args .shape .now) (record-start (c .before .before) .args .level) (record-start (c .before .before) .args .ty .now) (record-start (c .before .before) .args .at) (record-start (c .before .before) .args .q)) (record-start (c .before .before) .args .out .now)
-  sum-under c = under-numbered (record-start (c .before .before) .pre .1 .1) (sum-here c .same)
+  sum-under c = under-numbered _ _ _ _ _ _ _ (record-start (c .before .before) .pre .1 .1) (sum-here c .same)
 
   list-under : (c : write-record-lts.After-bound write-record-calls write-record-at write-record.Post) → UnderNumbered (mark-of (c .before .before .before .head-at .result)) (made-at (record-start (c .before .before) .args .shape .now) (elements (record-start (c .before .before) .args .level - 1) (record-start (c .before .before) .args .ty .now) (c .bound .given .0 .0) (record-start (c .before .before) .args .at + 1)) (record-start (c .before .before) .args .q)) (standing (record-start (c .before .before) .args .shape .now) (record-start (c .before .before) .args .level) (record-start (c .before .before) .args .ty .now) (record-start (c .before .before) .args .at) (record-start (c .before .before) .args .q)) (record-start (c .before .before) .args .out .now)
-  list-under c = under-numbered (record-start (c .before .before) .pre .1 .1) (list-here c .same)
+  list-under c = under-numbered _ _ _ _ _ _ _ (record-start (c .before .before) .pre .1 .1) (list-here c .same)
 
   write-record-shared-slice-read-side : write-record-lts.Need-shared-slice-read-side write-record-calls write-record-at write-record.Post
-  write-record-shared-slice-read-side c = let l = bit-here (c .before) .there in omega arith
+  write-record-shared-slice-read-side c = let l = side-inside _ _ _ _ _ _ (c .before .before .before .before .before .before .before .before .before .pre .1 .1) (bit-here (c .before)) in omega arith
 
   write-record-cast-side : write-record-lts.Need-cast-side write-record-calls write-record-at write-record.Post
-  write-record-cast-side c = side-fits _ (bit-here (c .before) .side)
+  write-record-cast-side c = side-fits _ (side-few _ _ _ _ _ _ (c .before .before .before .before .before .before .before .before .before .pre .1 .1) (bit-here (c .before)))
 
   write-record-sub-write-mark : write-record-lts.Need-sub-write-mark write-record-calls write-record-at write-record.Post
-  write-record-sub-write-mark c = bit-here (c .before .before) .some-side
+  write-record-sub-write-mark c = side-some _ _ _ _ _ _ (c .before .before .before .before .before .before .before .before .before .before .pre .1 .1) (bit-here (c .before .before))
 
   write-record-write-mark-requires : write-record-lts.Need-write-mark-requires write-record-calls write-record-at write-record.Post
-  write-record-write-mark-requires c κs = (bit-room (c .before .before .before .before .before .head-at .result) _ (c .before .before .before .before .before .before .before .before .before .before .pre .1 .1) (c .before .before .before .before .form-of .ensures) (c .before .before .enum-told2 .given .1) (bit-here (c .before .before)), (c .before .before .before .before .before .head-at .ensures .1, bit-marks (c .before .before .before .before .before .head-at .result) _ (c .before .before .before .before .before .before .before .before .before .before .pre .1 .1) (c .before .before .before .before .form-of .ensures) (c .before .before .enum-told2 .given .1) (bit-here (c .before .before))))
+  write-record-write-mark-requires c κs = (bit-room _ _ _ _ _ _ (c .before .before .before .before .before .before .before .before .before .before .pre .1 .1) (bit-here (c .before .before)), (c .before .before .before .before .before .head-at .ensures .1, bit-marks _ _ _ _ _ _ (c .before .before .before .before .before .before .before .before .before .before .pre .1 .1) (bit-here (c .before .before)) (c .before .before .before .before .before .head-at .result) _ (c .before .before .before .before .form-of .ensures) (c .before .before .enum-told2 .given .1)))
 
   write-record-add-t27 : write-record-lts.Need-add-t27 write-record-calls write-record-at write-record.Post
-  write-record-add-t27 c = let l = bit-here (c .before .before .before .before .before) .there in let g = c .before .before .before .before .before .before .before .before .before .before .before .before .before .good in omega arith
+  write-record-add-t27 c = let l = side-inside _ _ _ _ _ _ (c .before .before .before .before .before .before .before .before .before .before .before .before .before .pre .1 .1) (bit-here (c .before .before .before .before .before)) in let g = c .before .before .before .before .before .before .before .before .before .before .before .before .before .good in omega arith
 
   write-record-write-mark-requires-2 : write-record-lts.Need-write-mark-requires-2 write-record-calls write-record-at write-record.Post
-  write-record-write-mark-requires-2 c κs = (integer-room (c .before .before .before .before .before .head-at .result) _ (c .before .before .before .before .before .before .before .before .before .before .pre .1 .1) (c .before .before .before .before .form-of .ensures) (c .before .before .w .given .1) (integer-here (c .before .before)), (c .before .before .before .before .before .head-at .ensures .1, integer-marks (c .before .before .before .before .before .head-at .result) _ (c .before .before .before .before .before .before .before .before .before .before .pre .1 .1) (c .before .before .before .before .form-of .ensures) (c .before .before .w .given .1) (integer-here (c .before .before))))
+  write-record-write-mark-requires-2 c κs = (integer-room _ _ _ _ _ _ (c .before .before .before .before .before .before .before .before .before .before .pre .1 .1) (integer-here (c .before .before)), (c .before .before .before .before .before .head-at .ensures .1, integer-marks _ _ _ _ _ _ (c .before .before .before .before .before .before .before .before .before .before .pre .1 .1) (integer-here (c .before .before)) (c .before .before .before .before .before .head-at .result) _ (c .before .before .before .before .form-of .ensures) (c .before .before .w .given .1)))
 
   write-record-sub-write-integer : write-record-lts.Need-sub-write-integer write-record-calls write-record-at write-record.Post
   write-record-sub-write-integer c = omega arith
@@ -277,13 +274,13 @@ module _ (t : ℕ) where
   write-record-part-write-integer-start c = omega arith
 
   write-record-part-write-integer-end : write-record-lts.Need-part-write-integer-end write-record-calls write-record-at write-record.Post
-  write-record-part-write-integer-end c = let k = c .before .before .write-mark2 .kept in omega (arith, integer-room (c .before .before .before .before .before .before .before .before .head-at .result) _ (c .before .before .before .before .before .before .before .before .before .before .before .before .before .pre .1 .1) (c .before .before .before .before .before .before .before .form-of .ensures) (c .before .before .before .before .before .w .given .1) (integer-here (c .before .before .before .before .before)))
+  write-record-part-write-integer-end c = let k = c .before .before .write-mark2 .kept in omega (arith, integer-room _ _ _ _ _ _ (c .before .before .before .before .before .before .before .before .before .before .before .before .before .pre .1 .1) (integer-here (c .before .before .before .before .before)))
 
   write-record-write-integer-requires : write-record-lts.Need-write-integer-requires write-record-calls write-record-at write-record.Post
   write-record-write-integer-requires c κs =
       let i = integer-here (c .before .before .before .before .before .before) in
       let k = c .before .before .before .write-mark2 .kept in
-      ((i .some-bits, i .few, lent-length (c .before .before .before .write-mark2 .last .0) (omega (arith, integer-room (c .before .before .before .before .before .before .before .before .before .head-at .result) _ (c .before .before .before .before .before .before .before .before .before .before .before .before .before .before .pre .1 .1) (c .before .before .before .before .before .before .before .before .form-of .ensures) (c .before .before .before .before .before .before .w .given .1) (integer-here (c .before .before .before .before .before .before))))), integer-found (c .before .before .before .before .before .before .before .before .before .head-at .result) _ (c .before .before .before .before .before .before .before .before .before .before .before .before .before .before .pre .1 .1) (c .before .before .before .before .before .before .before .before .form-of .ensures) (c .before .before .before .before .before .before .w .given .1) (integer-here (c .before .before .before .before .before .before)))
+      ((i .some-bits, i .few, lent-length (c .before .before .before .write-mark2 .last .0) (omega (arith, integer-room _ _ _ _ _ _ (c .before .before .before .before .before .before .before .before .before .before .before .before .before .before .pre .1 .1) (integer-here (c .before .before .before .before .before .before))))), integer-found _ _ _ _ _ _ (c .before .before .before .before .before .before .before .before .before .before .before .before .before .before .pre .1 .1) (integer-here (c .before .before .before .before .before .before)))
 
   write-record-sub-write-product-2 : write-record-lts.Need-sub-write-product-2 write-record-calls write-record-at write-record.Post
   write-record-sub-write-product-2 c = under-start (product-under (c .before))
@@ -321,9 +318,8 @@ module _ (t : ℕ) where
   write-record-write-mark-requires-4 c κs =
       let i = sum-here (c .before .before .before .before .before .before) in
       let v = c .before .before .before .write-sum .ensures in
-      let e = numbered-is (sum-under (c .before .before .before .before .before .before)) v in
-      let l = sum-less _ _ _ _ _ _ _ _ (i .some-choice) (i .few) (sum-under (c .before .before .before .before .before .before) .below) in
-      (numbered-back (sum-under (c .before .before .before .before .before .before)) v, (c .before .before .before .before .before .before .before .before .before .head-at .ensures .1, i .marks _ (omega arith)))
+      let l = choice-below _ _ _ _ _ _ _ (sum-under (c .before .before .before .before .before .before)) (i .some-choice) v in
+      (numbered-back (sum-under (c .before .before .before .before .before .before)) v, (c .before .before .before .before .before .before .before .before .before .head-at .ensures .1, i .marks _ l))
 
   write-record-add-t45 : write-record-lts.Need-add-t45 write-record-calls write-record-at write-record.Post
   write-record-add-t45 c = let g = c .before .before .before .before .before .before .before .before .before .before .before .before .before .before .before .before .before .before .good in omega (arith, numbered-small (sum-under (c .before .before .before .before .before .before .before .before .before .before)) (c .before .before .before .before .before .before .before .write-sum .ensures))
@@ -345,9 +341,8 @@ module _ (t : ℕ) where
   write-record-write-mark-requires-5 c κs =
       let i = list-here (c .before .before .before .before .before .before) in
       let v = c .before .before .before .write-list .ensures in
-      let e = numbered-is (list-under (c .before .before .before .before .before .before)) v in
-      let l = elements-less _ _ _ _ _ _ _ (i .fair) (list-under (c .before .before .before .before .before .before) .below) in
-      (numbered-back (list-under (c .before .before .before .before .before .before)) v, (c .before .before .before .before .before .before .before .before .before .head-at .ensures .1, i .marks _ (omega arith)))
+      let l = count-below _ _ _ _ _ _ (list-under (c .before .before .before .before .before .before)) (i .fair) v in
+      (numbered-back (list-under (c .before .before .before .before .before .before)) v, (c .before .before .before .before .before .before .before .before .before .head-at .ensures .1, i .marks _ l))
 
   write-record-add-t54 : write-record-lts.Need-add-t54 write-record-calls write-record-at write-record.Post
   write-record-add-t54 c = let g = c .before .before .before .before .before .before .before .before .before .before .before .before .before .before .before .before .before .before .good in omega (arith, numbered-small (list-under (c .before .before .before .before .before .before .before .before .before .before)) (c .before .before .before .before .before .before .before .write-list .ensures))
@@ -357,22 +352,22 @@ module _ (t : ℕ) where
       let i = payload-here (c .before .before) in
       let l = level-some (c .before .before .before .before .before .before .before .before .before .before .pre .1 .0) in
       let m = i .few in
-      (omega arith, (m, (i .given, ready-as (i .same) (c .before .before .before .before .before .before .before .before .before .before .pre .1 .1))))
+      (omega arith, (m, (i .given, ready-as (payload-is _ _ _ _ _ _ (c .before .before .before .before .before .before .before .before .before .before .pre .1 .1) i) (c .before .before .before .before .before .before .before .before .before .before .pre .1 .1))))
 
   write-record-returns : write-record-lts.Need-returns write-record-calls write-record-at write-record.Post
-  write-record-returns c = absurd (as-nothing _ _ (c .before .before .before .before .before .before .before .before .pre .1 .0) (c .before .before .before .before .before .before .before .before .pre .1 .1 .there) (c .before .before .before .head-at .ensures .0) (c .before .before .before .head-at .ensures .1) (c .before .before .form-of .ensures) (c .enum-told .given .1))
+  write-record-returns c = absurd (nothing-there _ _ _ _ _ _ (c .before .before .before .before .before .before .before .before .pre .1 .1) (as-nothing (c .before .before .before .before .before .before .before .before .pre .1 .0) (c .before .before .before .head-at .ensures .0) (c .before .before .before .head-at .ensures .1) (c .before .before .form-of .ensures) (c .enum-told .given .1)))
 
   write-record-same-length : write-record-lts.Need-same-length write-record-calls write-record-at write-record.Post
-  write-record-same-length c = placed-length (c .before .before .before .before .before .before .before .before .before .before .before .before .before .pre .1 .1) (bit-done (c .before .before .before .before .before .before .before .before .head-at .result) _ (c .before .before .before .before .before .before .before .before .before .before .before .before .before .pre .1 .1) (c .before .before .before .before .before .before .before .form-of .ensures) (c .before .before .before .before .before .enum-told2 .given .1) (bit-here (c .before .before .before .before .before)) (c .before .before .write-mark .ensures))
+  write-record-same-length c = placed-length (c .before .before .before .before .before .before .before .before .before .before .before .before .before .pre .1 .1) (bit-done _ _ _ _ _ _ (c .before .before .before .before .before .before .before .before .before .before .before .before .before .pre .1 .1) (bit-here (c .before .before .before .before .before)) (c .before .before .before .before .before .before .before .before .head-at .result) _ (c .before .before .before .before .before .before .before .form-of .ensures) (c .before .before .before .before .before .enum-told2 .given .1) (c .before .before .write-mark .ensures))
 
   write-record-returns-2 : write-record-lts.Need-returns-2 write-record-calls write-record-at write-record.Post
-  write-record-returns-2 c = bit-done (c .before .before .before .before .before .before .before .before .head-at .result) _ (c .before .before .before .before .before .before .before .before .before .before .before .before .before .pre .1 .1) (c .before .before .before .before .before .before .before .form-of .ensures) (c .before .before .before .before .before .enum-told2 .given .1) (bit-here (c .before .before .before .before .before)) (c .before .before .write-mark .ensures)
+  write-record-returns-2 c = bit-done _ _ _ _ _ _ (c .before .before .before .before .before .before .before .before .before .before .before .before .before .pre .1 .1) (bit-here (c .before .before .before .before .before)) (c .before .before .before .before .before .before .before .before .head-at .result) _ (c .before .before .before .before .before .before .before .form-of .ensures) (c .before .before .before .before .before .enum-told2 .given .1) (c .before .before .write-mark .ensures)
 
   write-record-same-length-2 : write-record-lts.Need-same-length-2 write-record-calls write-record-at write-record.Post
-  write-record-same-length-2 c = placed-length (c .before .before .before .before .before .before .before .before .before .before .before .before .before .before .before .before .before .pre .1 .1) (integer-done (c .before .before .before .before .before .before .before .before .before .before .before .before .head-at .result) _ (c .before .before .before .before .before .before .before .before .before .before .before .before .before .before .before .before .before .pre .1 .1) (c .before .before .before .before .before .before .before .before .before .before .before .form-of .ensures) (c .before .before .before .before .before .before .before .before .before .w .given .1) (integer-here (c .before .before .before .before .before .before .before .before .before)) (c .before .before .before .before .before .before .write-mark2 .ensures) (c .before .before .write-integer .ensures))
+  write-record-same-length-2 c = placed-length (c .before .before .before .before .before .before .before .before .before .before .before .before .before .before .before .before .before .pre .1 .1) (integer-done _ _ _ _ _ _ (c .before .before .before .before .before .before .before .before .before .before .before .before .before .before .before .before .before .pre .1 .1) (integer-here (c .before .before .before .before .before .before .before .before .before)) (c .before .before .before .before .before .before .before .before .before .before .before .before .head-at .result) _ (c .before .before .before .before .before .before .before .before .before .before .before .form-of .ensures) (c .before .before .before .before .before .before .before .before .before .w .given .1) (c .before .before .before .before .before .before .write-mark2 .ensures) (c .before .before .write-integer .ensures))
 
   write-record-returns-3 : write-record-lts.Need-returns-3 write-record-calls write-record-at write-record.Post
-  write-record-returns-3 c = integer-done (c .before .before .before .before .before .before .before .before .before .before .before .before .head-at .result) _ (c .before .before .before .before .before .before .before .before .before .before .before .before .before .before .before .before .before .pre .1 .1) (c .before .before .before .before .before .before .before .before .before .before .before .form-of .ensures) (c .before .before .before .before .before .before .before .before .before .w .given .1) (integer-here (c .before .before .before .before .before .before .before .before .before)) (c .before .before .before .before .before .before .write-mark2 .ensures) (c .before .before .write-integer .ensures)
+  write-record-returns-3 c = integer-done _ _ _ _ _ _ (c .before .before .before .before .before .before .before .before .before .before .before .before .before .before .before .before .before .pre .1 .1) (integer-here (c .before .before .before .before .before .before .before .before .before)) (c .before .before .before .before .before .before .before .before .before .before .before .before .head-at .result) _ (c .before .before .before .before .before .before .before .before .before .before .before .form-of .ensures) (c .before .before .before .before .before .before .before .before .before .w .given .1) (c .before .before .before .before .before .before .write-mark2 .ensures) (c .before .before .write-integer .ensures)
 
   write-record-same-length-3 : write-record-lts.Need-same-length-3 write-record-calls write-record-at write-record.Post
   write-record-same-length-3 c = placed-length (c .before .before .before .before .before .before .before .before .before .before .before .before .before .before .before .before .before .before .pre .1 .1) (under-placed (product-under (c .before .before .before .before .before .before .before .before .before .before)) (c .before .before .before .before .before .before .before .write-product .ensures .1) (c .before .before .before .write-mark3 .ensures))
@@ -393,10 +388,10 @@ module _ (t : ℕ) where
   write-record-returns-6 c = numbered-placed (list-under (c .before .before .before .before .before .before .before .before .before .before)) (c .before .before .before .before .before .before .before .write-list .ensures) (c .before .before .before .write-mark5 .ensures)
 
   write-record-same-length-6 : write-record-lts.Need-same-length-6 write-record-calls write-record-at write-record.Post
-  write-record-same-length-6 c = placed-length (c .before .before .before .before .before .before .before .before .before .before .before .before .before .pre .1 .1) (placed-as (payload-here (c .before .before .before .before .before) .same) (c .before .before .write-product2 .ensures .1))
+  write-record-same-length-6 c = placed-length (c .before .before .before .before .before .before .before .before .before .before .before .before .before .pre .1 .1) (placed-as (payload-is _ _ _ _ _ _ (c .before .before .before .before .before .before .before .before .before .before .before .before .before .pre .1 .1) (payload-here (c .before .before .before .before .before))) (c .before .before .write-product2 .ensures .1))
 
   write-record-returns-7 : write-record-lts.Need-returns-7 write-record-calls write-record-at write-record.Post
-  write-record-returns-7 c = placed-as (payload-here (c .before .before .before .before .before) .same) (c .before .before .write-product2 .ensures .1)
+  write-record-returns-7 c = placed-as (payload-is _ _ _ _ _ _ (c .before .before .before .before .before .before .before .before .before .before .before .before .before .pre .1 .1) (payload-here (c .before .before .before .before .before))) (c .before .before .write-product2 .ensures .1)
 
   abbrev sum-start : write-sum-lts.After-btree-split-index write-sum-calls write-sum-at write-sum.Post → write-sum-lts.Start write-sum-calls write-sum-at write-sum.Post
   sum-start c = c .before .before .before .before .before .before

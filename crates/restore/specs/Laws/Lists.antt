@@ -1,10 +1,9 @@
 -- Laws of lists at a place of a shape file: a block is a left with no elements or a right with all of them; a list is a block of 1, or a pair of a block of half the bound and a list with that bound.
-use mathlib.Core.Path.{_≡_, refl, sym, ap, ap₂, _∙_}
-use mathlib.Core.List.{List, [], _∷_, _++_}
-use mathlib.Core.Option.{Option, none, some, Option·none-ne-some, Option·some-injective}
-use Prim.Native.Nat.{ℕ, zero, suc, _+_, _-_, _^_, _≤_, _<_}
+use mathlib.Core.Path.{_≡_, refl, sym, ap, _∙_}
+use mathlib.Core.List.{List, [], _++_}
+use mathlib.Core.Option.{Option, some, Option·none-ne-some, Option·some-injective}
+use Prim.Native.Nat.{ℕ, zero, suc, _+_, _-_, _^_, _<_}
 use native.Mathlib.Nat.{two-pow-succ, one-le-pow}
-use native.Mathlib.Numerals.{sub-one}
 use native.Mathlib.Omega.{arith}
 use lib.ListN.{length, getD, length-append}
 use Rattle.num.specs.declared.NonZeroPow2Usize.{NonZeroPow2Usize}
@@ -20,11 +19,11 @@ use Rattle.model.specs.Laws.Valid.{length-as-tuple}
 use Rattle.types.specs.Heads.{FairBound}
 use Rattle.structural.specs.Laws.Bounds.{Power, power-of}
 use Rattle.told.specs.declared.Parts.the-variants.{Copies}
-use Rattle.told.specs.Forms.{after, skip}
+use Rattle.told.specs.Laws.Trees.{skip-copies}
 use Rattle.record.specs.Trees.{row, product, numbered, blocked, elements}
 use Rattle.restore.specs.Forms.{tree-at, made-at}
-use Rattle.restore.specs.Laws.Made.{MadeOf, made-same, made-of}
-use Rattle.restore.specs.Laws.Places.{One, left-at, right-at, unit-at, pair-at, made-there}
+use Rattle.restore.specs.Laws.Made.{made-same, made-of, numbered-some}
+use Rattle.restore.specs.Laws.Places.{Two, left-at, right-at, unit-at, pair-at, made-there}
 use Rattle.restore.specs.Laws.Splits.{row-append}
 
 -- the half of a bound that is more than 2
@@ -98,13 +97,13 @@ module _ (sh : List ℕ) (d : ℕ) (s : List ℕ) where
   in-block n p q i rs e (right x) t g =
       let o = right-at x t in
       let (xs, f, k) = bindO-some (as-tuple n x) _ (i, rs) g in
-      let (us, r, m) = mapO-some _ (row Copies d s (length xs) p xs) (i, rs) k in
+      let (m, r) = numbered-some (length xs) (row Copies d s (length xs) p xs) i rs k in
       let z : length xs ≡ n = length-as-tuple n x xs f in
       full (record {
         starts = o .starts;
         inside = o .inside;
-        number = sym (ap (λ (y : ℕ × List Rec). y .0) m) ∙ z;
-        below = made-there (record { tree = x; stood = o .below; made = ap (λ o. bindO o (λ xs. row Copies d s n p xs)) f ∙ ap (λ j. row Copies d s j p xs) (sym z) ∙ r ∙ ap (λ (y : ℕ × List Rec). some (y .1)) m });
+        number = m ∙ z;
+        below = made-there (record { tree = x; stood = o .below; made = ap (λ o. bindO o (λ xs. row Copies d s n p xs)) f ∙ ap (λ j. row Copies d s j p xs) (sym z) ∙ r });
       })
 
   block : (n p q i : ℕ) (rs : List Rec) (e : ℕ) → made-at sh (blocked d s n p) q ≡ some ((i, rs), e) → Block n p q i rs e
@@ -160,11 +159,6 @@ module _ (sh : List ℕ) (d : ℕ) (s : List ℕ) where
     pub number : i ≡ first + second
     pub all : rs ≡ firsts ++ seconds
 
-  skip-stays : (n p : ℕ) → skip Copies d s n p ≡ p
-  unfolding skip after
-  skip-stays zero p = refl
-  skip-stays (suc n) p = skip-stays n p
-
   -- elements one behind the other
   record Rows (p i : ℕ) (rs : List Rec) (xs ys : List SValue) : Type 0 where
     firsts : List Rec
@@ -176,42 +170,46 @@ module _ (sh : List ℕ) (d : ℕ) (s : List ℕ) where
 
   both-rows : (p i : ℕ) (rs : List Rec) (xs ys : List SValue) → numbered-row p (xs ++ ys) ≡ some (i, rs) → Rows p i rs xs ys
   both-rows p i rs xs ys h =
-      let (us, r, m) = mapO-some _ (row Copies d s (length (xs ++ ys)) p (xs ++ ys)) (i, rs) h in
-      let a : bindO (row Copies d s (length xs) p xs) (λ us. mapO (λ vs. us ++ vs) (row Copies d s (length ys) p ys)) ≡ some rs = ap (λ j. bindO (row Copies d s (length xs) p xs) (λ us. mapO (λ vs. us ++ vs) (row Copies d s (length ys) j ys))) (sym (skip-stays (length xs) p)) ∙ sym (row-append Copies d s (length xs) (length ys) p xs ys refl) ∙ ap (λ j. row Copies d s j p (xs ++ ys)) (sym (length-append xs ys)) ∙ r ∙ ap (λ (y : ℕ × List Rec). some (y .1)) m in
+      let (m, r) = numbered-some (length (xs ++ ys)) (row Copies d s (length (xs ++ ys)) p (xs ++ ys)) i rs h in
+      let a : bindO (row Copies d s (length xs) p xs) (λ us. mapO (λ vs. us ++ vs) (row Copies d s (length ys) p ys)) ≡ some rs = ap (λ j. bindO (row Copies d s (length xs) p xs) (λ us. mapO (λ vs. us ++ vs) (row Copies d s (length ys) j ys))) (sym (skip-copies d s (length xs) p)) ∙ sym (row-append Copies d s (length xs) (length ys) p xs ys refl) ∙ ap (λ j. row Copies d s j p (xs ++ ys)) (sym (length-append xs ys)) ∙ r in
       let (vs, f, g) = bindO-some (row Copies d s (length xs) p xs) _ rs a in
       let (ws, k, l) = mapO-some _ (row Copies d s (length ys) p ys) rs g in
-      record { firsts = vs; seconds = ws; first-row = f; second-row = k; number = sym (ap (λ (y : ℕ × List Rec). y .0) m) ∙ length-append xs ys; all = sym l }
+      record { firsts = vs; seconds = ws; first-row = f; second-row = k; number = m ∙ length-append xs ys; all = sym l }
 
-  halves-of : {b h : NonZeroPow2Usize} (n p q i : ℕ) (rs : List Rec) (e : ℕ) → FairBound h → h .0 < b .0 → h .0 ≡ 2 ^ suc n → bound-log2 (h .0) ≡ suc n → (x : SValue) → tree-at sh q ≡ some (x, e) → bindO (combine (suc n) x) (numbered-row p) ≡ some (i, rs) → Halves b h p q i rs e
-  unfolding elements blocked combine
-  halves-of n p q i rs e f l m o unit t g = absurd (Option·none-ne-some (i, rs) g)
-  halves-of n p q i rs e f l m o (left x) t g = absurd (Option·none-ne-some (i, rs) g)
-  halves-of n p q i rs e f l m o (right x) t g = absurd (Option·none-ne-some (i, rs) g)
-  halves-of {b} {h} n p q i rs e f l m o (pair x y) t g =
-      let two = pair-at x y t in
-      let (zs, a, c) = bindO-some (bindO (as-block (2 ^ suc n) x) (λ xs. mapO (λ ys. xs ++ ys) (combine n y))) _ (i, rs) g in
-      let (xs, u, v) = bindO-some (as-block (2 ^ suc n) x) _ zs a in
-      let (ys, w, z) = mapO-some _ (combine n y) zs v in
-      let r = both-rows p i rs xs ys (ap (numbered-row p) z ∙ c) in
-      let k : bound-log2 (h .0) - 1 ≡ n = omega arith in
+  -- of the trees of a block and a list
+  halves-in : {b h : NonZeroPow2Usize} {p q i : ℕ} {rs : List Rec} {e : ℕ} (k : Half b h) (x y : SValue) → Two sh q x y e → (xs ys : List SValue) → as-block (2 ^ suc (k .exponent)) x ≡ some xs → combine (k .exponent) y ≡ some ys → Rows p i rs xs ys → Halves b h p q i rs e
+  unfolding elements blocked
+  halves-in {b} {h} {p = p} k x y t xs ys u v r =
+      let l : bound-log2 (h .0) - 1 ≡ k .exponent = let m = k .log2 in omega arith in
       record {
-        fair = f;
-        less = l;
-        inside = two .inside;
-        mid = two .mid;
+        fair = k .fair;
+        less = k .less;
+        inside = t .inside;
+        mid = t .mid;
         first = length xs;
         second = length ys;
         firsts = r .firsts;
         seconds = r .seconds;
-        block-there = made-there (record { tree = x; stood = two .first; made = ap (λ j. bindO (as-block j x) (numbered-row p)) m ∙ ap (λ o. bindO o (numbered-row p)) u ∙ ap (numbered (length xs)) (r .first-row) });
-        list-there = made-there (record { tree = y; stood = two .second; made = ap (λ j. bindO (combine j y) (numbered-row p)) k ∙ ap (λ o. bindO o (numbered-row p)) w ∙ ap (numbered (length ys)) (r .second-row) });
+        block-there = made-there (record { tree = x; stood = t .first; made = ap (λ j. bindO (as-block j x) (numbered-row p)) (k .power) ∙ ap (λ o. bindO o (numbered-row p)) u ∙ ap (numbered (length xs)) (r .first-row) });
+        list-there = made-there (record { tree = y; stood = t .second; made = ap (λ j. bindO (combine j y) (numbered-row p)) l ∙ ap (λ o. bindO o (numbered-row p)) v ∙ ap (numbered (length ys)) (r .second-row) });
         number = r .number;
         all = r .all;
       }
+
+  halves-of : {b h : NonZeroPow2Usize} (p q i : ℕ) (rs : List Rec) (e : ℕ) (k : Half b h) (x : SValue) → tree-at sh q ≡ some (x, e) → bindO (combine (suc (k .exponent)) x) (numbered-row p) ≡ some (i, rs) → Halves b h p q i rs e
+  unfolding combine
+  halves-of p q i rs e k unit t g = absurd (Option·none-ne-some (i, rs) g)
+  halves-of p q i rs e k (left x) t g = absurd (Option·none-ne-some (i, rs) g)
+  halves-of p q i rs e k (right x) t g = absurd (Option·none-ne-some (i, rs) g)
+  halves-of p q i rs e k (pair x y) t g =
+      let (zs, a, c) = bindO-some (bindO (as-block (2 ^ suc (k .exponent)) x) (λ xs. mapO (λ ys. xs ++ ys) (combine (k .exponent) y))) _ (i, rs) g in
+      let (xs, u, v) = bindO-some (as-block (2 ^ suc (k .exponent)) x) _ zs a in
+      let (ys, w, z) = mapO-some _ (combine (k .exponent) y) zs v in
+      halves-in k x y (pair-at x y t) xs ys u w (both-rows p i rs xs ys (ap (numbered-row p) z ∙ c))
 
   pub list-more : {b h : NonZeroPow2Usize} (p q i : ℕ) (rs : List Rec) (e : ℕ) → FairBound b → bounds.Of h ≡ half-bound (b .0) → made-at sh (elements d s b p) q ≡ some ((i, rs), e) → Halves b h p q i rs e
   unfolding elements
   list-more {b} {h} p q i rs e f k g =
       let u = half f k in
       let v = made-of sh (elements d s b p) q ((i, rs), e) g in
-      halves-of (u .exponent) p q i rs e (u .fair) (u .less) (u .power) (u .log2) (v .tree) (v .stood) (ap (λ j. bindO (combine j (v .tree)) (numbered-row p)) (sym (u .twice)) ∙ v .made)
+      halves-of p q i rs e u (v .tree) (v .stood) (ap (λ j. bindO (combine j (v .tree)) (numbered-row p)) (sym (u .twice)) ∙ v .made)

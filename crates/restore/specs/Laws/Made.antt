@@ -1,11 +1,13 @@
 -- What is made of the tree at a place.
-use mathlib.Core.Path.{_≡_, refl, ap, _∙_}
+use mathlib.Core.Path.{_≡_, refl, sym, ap, _∙_}
 use mathlib.Core.List.{List}
-use mathlib.Core.Option.{Option, none, some}
+use mathlib.Core.Option.{Option, none, some, Option·none-ne-some, Option·some-injective}
 use Prim.Native.Nat.{ℕ}
 use Rattle.model.specs.Options.{mapO, bindO}
 use Rattle.model.specs.Structural.{SValue}
 use Rattle.model.specs.Laws.Options.{bindO-some, mapO-some}
+use Rattle.model.specs.ValueFiles.{Rec}
+use Rattle.record.specs.Trees.{numbered}
 use Rattle.record.specs.Laws.Maybe.{bindO-known}
 use Rattle.restore.specs.Forms.{Given, tree-at, made-at}
 
@@ -38,3 +40,9 @@ made-of sh f q y h =
     let (x, e, k) = bindO-some (tree-at sh q) _ y h in
     let (a, i, m) = mapO-some _ (f (x .0)) y k in
     record { tree = x .0; stood = e ∙ ap (λ n. some (x .0, n)) (ap (λ z. z .1) m); made = i ∙ ap (λ z. some (z .0)) m }
+
+-- WHAT HAS A NUMBER
+
+pub numbered-some : (j : ℕ) (o : Option (List Rec)) (i : ℕ) (rs : List Rec) → numbered j o ≡ some (i, rs) → (i ≡ j) × (o ≡ some rs)
+numbered-some j none i rs h = absurd (Option·none-ne-some (i, rs) h)
+numbered-some j (some us) i rs h = let k = Option·some-injective (j, us) (i, rs) h in (sym (ap (λ (y : ℕ × List Rec). y .0) k), ap (λ (y : ℕ × List Rec). some (y .1)) k)

@@ -6,12 +6,11 @@ use mathlib.Core.Option.{Option, none, some, Option·none-ne-some, Option·some-
 use Prim.Native.Nat.{ℕ, zero, suc, _+_, _-_, _≤_, _<_}
 use native.Mathlib.Nat.{zero-add, suc-add}
 use native.Mathlib.Omega.{arith}
-use lib.Dec.{eqb}
 use lib.ListN.{length, getD}
 use Rattle.model.specs.Options.{mapO, bindO, mapM}
-use Rattle.model.specs.Balanced.{BTree, leaf, fork, leaves, btree, grow, btree-split-index}
+use Rattle.model.specs.Balanced.{fork, btree, grow, btree-split-index}
 use Rattle.model.specs.Structural.{SValue, unit, left, right, pair}
-use Rattle.model.specs.ValueFiles.{Rec}
+use Rattle.model.specs.ValueFiles.{Rec, bit-number}
 use Rattle.model.specs.Reconstruct.{unfold-tree, as-tuple, as-bit}
 use Rattle.model.specs.Laws.Options.{bindO-some, mapO-some}
 use Rattle.model.specs.Laws.Balanced.{split-bounds, btree-fork}
@@ -20,8 +19,8 @@ use Rattle.told.specs.declared.Parts.{Parts}
 use Rattle.told.specs.Forms.{after, skip}
 use Rattle.record.specs.Trees.{part, row, product, bit-row}
 use Rattle.restore.specs.Forms.{tree-at, made-at, standing}
-use Rattle.restore.specs.Laws.Made.{MadeOf, made-same, made-of}
-use Rattle.restore.specs.Laws.Places.{One, Two, left-at, right-at, unit-at, pair-at, made-there}
+use Rattle.restore.specs.Laws.Made.{made-same, made-of}
+use Rattle.restore.specs.Laws.Places.{left-at, right-at, unit-at, pair-at, made-there}
 
 -- THE TWO SIDES
 
@@ -79,9 +78,9 @@ mapM-append {A} {B} f (x ∷ xs) ys = go (f x) (mapM f xs) (mapM f ys) (mapM f (
 pub record Bit (sh : List ℕ) (q : ℕ) (b : Bool) (e : ℕ) : Type 0 where
   pub inside : q + 1 < length sh
   pub end : e ≡ q + 2
-  pub side : b ≡ eqb (getD sh q 0) 2
+  pub side : getD sh q 0 ≡ suc (bit-number b)
 
-bit-at : {sh : List ℕ} {q e : ℕ} {b : Bool} (x : SValue) → tree-at sh q ≡ some (x, e) → as-bit x ≡ some b → Bit sh q b e
+pub bit-at : {sh : List ℕ} {q e : ℕ} {b : Bool} (x : SValue) → tree-at sh q ≡ some (x, e) → as-bit x ≡ some b → Bit sh q b e
 bit-at {b = b} unit h k = absurd (Option·none-ne-some b k)
 bit-at {b = b} (pair x y) h k = absurd (Option·none-ne-some b k)
 bit-at {b = b} (left (left x)) h k = absurd (Option·none-ne-some b k)
@@ -94,12 +93,12 @@ bit-at {b = b} (left unit) h k =
     let o = left-at unit h in
     let u = unit-at (o .below) in
     let l = u .inside in let m = u .end in
-    record { inside = l; end = omega arith; side = sym (ap (λ i. eqb i 2) (o .starts) ∙ Option·some-injective false b k) }
+    record { inside = l; end = omega arith; side = o .starts ∙ ap (λ b. suc (bit-number b)) (Option·some-injective false b k) }
 bit-at {b = b} (right unit) h k =
     let o = right-at unit h in
     let u = unit-at (o .below) in
     let l = u .inside in let m = u .end in
-    record { inside = l; end = omega arith; side = sym (ap (λ i. eqb i 2) (o .starts) ∙ Option·some-injective true b k) }
+    record { inside = l; end = omega arith; side = o .starts ∙ ap (λ b. suc (bit-number b)) (Option·some-injective true b k) }
 
 -- one bit
 pub record OneBit (sh : List ℕ) (q : ℕ) (bs : List Bool) (e : ℕ) : Type 0 where

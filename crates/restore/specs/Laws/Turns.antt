@@ -1,13 +1,13 @@
 -- Laws of balanced sums at a place of a shape file: of one choice, and of two or more, where a left or a right leads to the one side's choices or the other's.
-use mathlib.Core.Path.{_≡_, refl, sym, ap, ap₂, _∙_}
-use mathlib.Core.List.{List, []}
-use mathlib.Core.Option.{Option, none, some, Option·none-ne-some, Option·some-injective}
+use mathlib.Core.Path.{_≡_, sym, ap, _∙_}
+use mathlib.Core.List.{List}
+use mathlib.Core.Option.{some, Option·none-ne-some}
 use Prim.Native.Nat.{ℕ, zero, suc, _+_, _-_, _≤_, _<_}
 use native.Mathlib.Nat.{zero-add, suc-add}
 use native.Mathlib.Omega.{arith}
 use lib.ListN.{length, getD}
-use Rattle.model.specs.Options.{mapO, bindO}
-use Rattle.model.specs.Balanced.{BTree, leaf, fork, leaves, btree, grow, btree-split-index}
+use Rattle.model.specs.Options.{bindO}
+use Rattle.model.specs.Balanced.{fork, leaves, btree, grow, btree-split-index}
 use Rattle.model.specs.Structural.{SValue, unit, left, right, pair}
 use Rattle.model.specs.ValueFiles.{Rec}
 use Rattle.model.specs.Reconstruct.{as-enum-leaf}
@@ -16,7 +16,7 @@ use Rattle.model.specs.Laws.Balanced.{split-bounds, btree-fork, btree-leaves}
 use Rattle.told.specs.Forms.{hops}
 use Rattle.record.specs.Trees.{part, sum, numbered}
 use Rattle.restore.specs.Forms.{tree-at, made-at, standing}
-use Rattle.restore.specs.Laws.Made.{MadeOf, made-same, made-of}
+use Rattle.restore.specs.Laws.Made.{made-of, numbered-some}
 use Rattle.restore.specs.Laws.Places.{left-at, right-at, made-there}
 
 hops-add : (E : List ℕ) (m n p : ℕ) → hops E (m + n) p ≡ hops E n (hops E m p)
@@ -34,8 +34,8 @@ module _ (sh : List ℕ) (d : ℕ) (s E : List ℕ) where
   unfolding sum standing as-enum-leaf btree grow hops
   sum-one n p q i rs e z h =
       let m = made-of sh (sum d s E 1 p) q ((i, rs), e) (rw z at h) in
-      let (us, f, g) = mapO-some _ (part d s p (m .tree)) (i, rs) (m .made) in
-      record { first = sym (ap (λ (y : ℕ × List Rec). y .0) g); there = made-there (record { tree = m .tree; stood = m .stood; made = f ∙ ap (λ (y : ℕ × List Rec). some (y .1)) g }) }
+      let (f, g) = numbered-some 0 (part d s p (m .tree)) i rs (m .made) in
+      record { first = f; there = made-there (record { tree = m .tree; stood = m .stood; made = g }) }
 
   -- a left leads to the first choices
   pub record Leftwards (n few p q i : ℕ) (rs : List Rec) (e : ℕ) : Type 0 where
@@ -59,15 +59,9 @@ module _ (sh : List ℕ) (d : ℕ) (s E : List ℕ) where
   unfolding sum
   to-right n l p q i rs e a t z u g =
       let o = right-at a t in
-      let (us, r, c) = mapO-some _ (part d s (hops E (l + z .0) p) (z .1)) (i, rs) g in
-      let f : part d s (hops E (z .0) (hops E l p)) (z .1) ≡ some rs = ap (λ k. part d s k (z .1)) (sym (hops-add E l (z .0) p)) ∙ r ∙ ap (λ (k : ℕ × List Rec). some (k .1)) c in
-      record {
-        starts = o .starts;
-        inside = o .inside;
-        number = z .0;
-        moved = sym (ap (λ (k : ℕ × List Rec). k .0) c);
-        below = made-there (record { tree = a; stood = o .below; made = ap (λ o. bindO o (λ y. numbered (y .0) (part d s (hops E (y .0) (hops E l p)) (y .1)))) u ∙ ap (numbered (z .0)) f });
-      }
+      let (f, r) = numbered-some (l + z .0) (part d s (hops E (l + z .0) p) (z .1)) i rs g in
+      let k : sum d s E (n - l) (hops E l p) a ≡ some (z .0, rs) = ap (λ o. bindO o (λ y. numbered (y .0) (part d s (hops E (y .0) (hops E l p)) (y .1)))) u ∙ ap (λ k. numbered (z .0) (part d s k (z .1))) (sym (hops-add E l (z .0) p)) ∙ ap (numbered (z .0)) r in
+      record { starts = o .starts; inside = o .inside; number = z .0; moved = f; below = made-there (record { tree = a; stood = o .below; made = k }) }
 
   turned : (n p q i : ℕ) (rs : List Rec) (e : ℕ) → 2 ≤ n → made-at sh (sum d s E n p) q ≡ some ((i, rs), e) → Turned n (btree-split-index n) p q i rs e
   unfolding sum as-enum-leaf

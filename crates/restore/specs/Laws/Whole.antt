@@ -18,8 +18,8 @@ use Rattle.model.specs.Laws.ShapeFiles.{read-shape-records, shape-written-read}
 use Rattle.types.specs.Trees.{tree}
 use Rattle.types.specs.Steps.{Given}
 use Rattle.record.specs.Trees.{value-in, part}
-use Rattle.restore.specs.Forms.{tree-at, made-at, standing}
 use Rattle.record.specs.Laws.Products.{part-is}
+use Rattle.restore.specs.Forms.{tree-at, made-at, standing}
 
 -- the file's tree stands at its first place and ends with it
 whole-tree : (sh : List ℕ) (x : SValue) → shape-of sh ≡ done x → tree-at sh 0 ≡ some (x, length sh)

@@ -1,11 +1,10 @@
 -- Laws of records written over the front of a buffer: two pieces, the second into the rest behind the first; a record put before what was written behind it; an integer put into its record.
-use mathlib.Core.Path.{_≡_, refl, sym, ap, ap₂, _∙_}
+use mathlib.Core.Path.{_≡_, refl, sym, ap, _∙_}
 use mathlib.Core.List.{List, [], _∷_, _++_, append-assoc, append-nil}
-use Prim.Native.Nat.{ℕ, suc, _+_, _-_, _≤_, _<_}
+use Prim.Native.Nat.{ℕ, suc, _+_, _≤_}
 use native.Mathlib.Omega.{arith}
 use lib.ListN.{length, take, drop, length-append, length-drop, length-take, take-append-drop}
-use lib.Seq.{take-at, drop-at, drop-drop, take-all}
-use Rattle.model.specs.Options.{flatMap}
+use lib.Seq.{drop-at}
 use Rattle.model.specs.Bytes.{two, in-bytes}
 use Rattle.model.specs.ValueFiles.{Rec, rec, value-bytes}
 use Rattle.model.specs.Laws.Bytes.{length-in-bytes}

@@ -1,0 +1,71 @@
+-- What the walk over a frame asks and answers.
+use mathlib.Core.Path.{_≡_}
+use mathlib.Core.List.{List}
+use mathlib.Core.Option.{Option, none, some}
+use Prim.Native.Nat.{ℕ, _+_, _*_, _^_, _≤_, _<_, min}
+use lib.ListN.{length, getD}
+use Rattle.reply.specs.Numbers.{refusalNumber}
+use Rattle.model.specs.Outcome.{Outcome, done, refused, _>>=_}
+use Rattle.model.specs.Balanced.{btree, fold}
+use Rattle.model.specs.Structural.{𝟙, _⊕_}
+use Rattle.model.specs.Types.{Ty}
+use Rattle.model.specs.ValueFiles.{encode}
+use Rattle.model.specs.Frames.{width, unframe}
+use Rattle.model.specs.Operations.{lowering}
+use Rattle.types.specs.Trees.{typeOf}
+use Rattle.told.specs.declared.Parts.{Parts}
+use Rattle.told.specs.declared.Parts.the-variants.{Copies, Types}
+use Rattle.rebuild.specs.Forms.{most-records}
+use Rattle.accept.specs.declared.Seen.{Seen}
+use Rattle.accept.specs.declared.Seen.the-variants.{Of, Stray}
+use Rattle.accept.specs.declared.Accepted.{Accepted}
+use Rattle.accept.specs.declared.Accepted.the-variants.{Records, Refused}
+use Rattle.accept.specs.Forms.{place, types-in}
+
+-- NUMBERS
+
+-- a number of records, as far as it is counted
+abbrev pub cut : ℕ → ℕ
+cut n = min n most-records
+
+-- what is seen, as the walk answers it
+abbrev pub answer : Option ℕ → Seen
+answer none = Stray
+answer (some n) = Of (cut n)
+
+abbrev pub count-of : Seen → ℕ
+count-of (Of n) = n
+count-of Stray = 0
+
+-- both, added up
+abbrev pub both-of : Seen → Seen → Seen
+both-of Stray b = Stray
+both-of (Of n) Stray = Stray
+both-of (Of n) (Of m) = Of (cut (n + m))
+
+-- THE TABLE
+
+-- the record that the table of ends says to be after the part at p
+abbrev pub after-at : Parts → List ℕ → ℕ → ℕ
+after-at Copies E p = p
+after-at Types E p = getD E p 0
+
+-- a sum of the n choices from record p on stands at a bit of a frame, padded up to another
+pub record Padded (d : ℕ) (s : List ℕ) (n p : ℕ) (fr : List ℕ) (bit end : ℕ) : Type 0 where
+  pub fits : bit + width (fold _⊕_ 𝟙 (btree n) (types-in Types d s n p)) ≤ end
+  pub inside : end ≤ 8 * length fr
+  pub small : end < 2 ^ 64
+
+-- THE WHOLE
+
+-- rows 6 and 7 do not hold
+pub record Lowered (s : List ℕ) : Type 0 where
+  pub lowers : lowering s ≡ done (typeOf s)
+
+-- the number of records of the value whose frame it is, or the number of the row that refuses it
+unfoldable pub accepted : Ty → List ℕ → Outcome ℕ
+accepted t file = unframe place t file >>= (λ v. done (length (encode t v)))
+
+abbrev pub outcome-of : Accepted → Outcome ℕ
+outcome-of (Records n) = done n
+outcome-of (Refused x) = refused (refusalNumber x)

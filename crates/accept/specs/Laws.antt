@@ -1,0 +1,9 @@
+pub mod Bits
+pub mod Products
+pub mod Sums
+pub mod Lists
+pub mod Seen
+pub mod Formed
+pub mod Answers
+pub mod Walking
+pub mod Whole

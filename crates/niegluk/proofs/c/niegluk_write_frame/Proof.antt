@@ -1,0 +1,12 @@
+-- `niegluk::c::niegluk_write_frame` meets its contract: the number and the length are those of `write_frame`'s reply. Assumes nothing.
+use borrow.Author.Needs.{needs}
+use Rattle.niegluk.proofs.c.niegluk_write_frame.Statement.{statement}
+use Rattle.niegluk.proofs.c.niegluk_write_frame.Tie as tie
+
+returns : tie.Need-returns
+returns c = rw (c .number .ensures, c .before .length-of .ensures) (c .before .before .before .before .write-frame .ensures)
+
+pub niegluk-write-frame-spec : {M : Type 1} → statement M
+niegluk-write-frame-spec =
+    tie.close
+    (tie.spec (λ c κs. search needs) (λ c κs. search needs) (λ c κs. search needs) (λ c. search needs) returns)

@@ -1,0 +1,6 @@
+pub mod Sample
+pub mod Pieces
+pub mod Lines
+pub mod Decimal
+pub mod Contents
+pub mod Sizes

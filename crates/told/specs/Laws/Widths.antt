@@ -1,0 +1,92 @@
+-- The table of a type file that lowers has the width of what stands at each record: nothing in it is cut.
+use mathlib.Core.Path.{_≡_, refl, sym, ap, subst, _∙_}
+use mathlib.Core.Bool.{Bool, true, false, _||_}
+use mathlib.Core.List.{List}
+use Prim.Native.Nat.{ℕ, zero, suc, _+_, _≤_, _<_}
+use native.Mathlib.Omega.{arith}
+use lib.ListN.{length, getD}
+use borrow.Author.Tests.{ltb-false}
+use Rattle.model.specs.Numbers.{never-stands, too-large, most-shape-records}
+use Rattle.model.specs.Outcome.{done, refuse, _>>_}
+use Rattle.model.specs.Structural.{SType}
+use Rattle.model.specs.Frames.{width}
+use Rattle.model.specs.Lowering.{has-never, over-large}
+use Rattle.model.specs.Operations.{lowering}
+use Rattle.model.specs.Laws.Outcome.{refuse-step}
+use Rattle.model.specs.Laws.Sizes.{nodes, width-nodes}
+use Rattle.types.specs.declared.TypeAnswer.{TypeAnswer}
+use Rattle.types.specs.declared.TypeAnswer.the-variants.{Ok}
+use Rattle.types.specs.declared.Walk.the-variants.{End}
+use Rattle.types.specs.Walks.{walk}
+use Rattle.types.specs.Trees.{tree}
+use Rattle.types.specs.Lows.{low}
+use Rattle.types.specs.Record.{recAt}
+use Rattle.types.specs.Accepted.{ends-whole, few}
+use Rattle.types.specs.Unique.{inside}
+use Rattle.types.specs.Model.{accepted-tree}
+use Rattle.table.specs.Facts.{cut}
+use Rattle.table.specs.Flags.{flagged}
+use Rattle.table.specs.Lowering.{largeAt, large-flagged}
+use Rattle.table.specs.Measuring.{some-variants}
+use Rattle.table.specs.Tabled.{Table, TableIf, Tabled}
+use Rattle.structural.specs.Forms.{is-variant, standing}
+use Rattle.told.specs.Widths.{Wide}
+
+-- where none of n records is flagged, each is not
+or-first : (a b : Bool) → a || b ≡ false → a ≡ false
+or-first false b h = refl
+or-first true b h = h
+
+or-second : (a b : Bool) → a || b ≡ false → b ≡ false
+or-second false b h = h
+or-second true b h = absurd (let z : _≡_ {A = ℕ} 0 1 = cc in omega arith)
+
+unflagged : (f : ℕ → Bool) (p n i : ℕ) → flagged f p n ≡ false → i < n → f (p + i) ≡ false
+unfolding flagged
+unflagged f p zero i h l = absurd (omega arith)
+unflagged f p (suc n) zero h l = let e : p + 0 ≡ p = omega arith in ap f e ∙ or-first (f p) (flagged f (p + 1) n) h
+unflagged f p (suc n) (suc i) h l = let e : p + suc i ≡ p + 1 + i = omega arith in ap f e ∙ unflagged f (p + 1) n i (or-second (f p) (flagged f (p + 1) n) h) (omega arith)
+
+-- a type of at most 65,536 records has at most 32,768 bits
+uncut : (t : SType) (x y : ℕ) → x ≡ cut (nodes t) → x ≤ most-shape-records → y ≡ cut (width t) → (y ≡ width t) × (y ≤ 32768)
+uncut t x y e l f = let k = width-nodes t in (omega arith, omega arith)
+
+module _ {s E S W : List ℕ} {n : ℕ} (t : Table s E S W n) (h : over-large (tree 32 s 0) ≡ false) where
+  record-width : (d p e : ℕ) (v : Bool) → walk d v s p ≡ End e → (getD W p 0 ≡ width (low d v s p)) × (getD W p 0 ≤ 32768)
+  unfolding largeAt
+  record-width d p e v q =
+      let (w, l) = ends-whole s n (t .accepted) in
+      let m = t .measured in
+      let i : p < n = let k = inside d v s p e q in omega arith in
+      let f : flagged (largeAt S) 0 n ≡ false = large-flagged s S W m (some-variants s) 32 n w ∙ h in
+      let z : 0 + p ≡ p = omega arith in
+      let g : largeAt S p ≡ false = ap (largeAt S) (sym z) ∙ unflagged (largeAt S) 0 n p f i in
+      uncut (low d v s p) (getD S p 0) (getD W p 0) (m .size p d e v (omega arith) q) (ltb-false _ _ g) (m .width p d e v (omega arith) q)
+
+module _ {s E S W : List ℕ} {r : TypeAnswer} {n : ℕ} (p : Tabled s r E S W) (e : r ≡ Ok n) where
+  table : Table s E S W n
+  table = subst (λ (r : TypeAnswer). TableIf r s E S W) e (p .table)
+
+  lowers : lowering s ≡ done (tree 32 s 0)
+  lowers = rw (p .answer, e) refl
+
+  -- row 7 does not hold
+  not-large : over-large (tree 32 s 0) ≡ false
+  unfolding lowering
+  not-large =
+      let t = tree 32 s 0 in
+      let h : (refuse never-stands (has-never t) >> (refuse too-large (over-large t) >> done t)) ≡ done t = rw (accepted-tree s n (table .accepted)) at lowers in
+      let (_, g) = refuse-step never-stands (has-never t) (refuse too-large (over-large t) >> done t) t h in
+      refuse-step too-large (over-large t) (done t) t g .0
+
+  -- what the check of a type file leaves is what the writers of a frame ask
+  pub tabled-wide : 1024 ≤ length W → Wide s E W
+  unfolding standing
+  tabled-wide l =
+      let k = few s n (table .accepted) in
+      let (w, m) = ends-whole s n (table .accepted) in
+      record {
+        long = omega arith;
+        right = λ d i g. record-width table not-large d i (g .given .starts .end) (is-variant (recAt s i)) (g .given .starts .walks) .0;
+        small = λ d i g. record-width table not-large d i (g .given .starts .end) (is-variant (recAt s i)) (g .given .starts .walks) .1;
+      }

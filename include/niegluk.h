@@ -13,6 +13,8 @@
  *     8   the shape has over 65,536 records
  *     9   a byte of the shape is above 3, or it is not exactly one tree
  *    10   the shape does not read as a value of the type
+ *    11   the frame's length is another than the type's
+ *    12   a padding or tail bit of the frame is 1
  *    15   the value file's length is zero or no multiple of 36
  *    16   the value file is not one value of the type
  *    17   the result needs more bytes than the buffer has
@@ -53,6 +55,14 @@ uint32_t niegluk_write_shape(const uint8_t *ty, size_t ty_len, const uint8_t *va
  * where the shape reaches it. What lies under an empty tuple, an array of 0 or a variant without parts is passed over.
  * At most 77,856,768 bytes. Numbers 1 to 5, 8, 9, 10 and 17. */
 uint32_t niegluk_reconstruct(const uint8_t *ty, size_t ty_len, const uint8_t *shape, size_t shape_len, uint8_t *out, size_t out_len, size_t *length);
+
+/* Writes the frame of a value: its bits, the first the highest of byte 0, and zeros to the end of the last byte.
+ * At most 4,096 bytes, none for a type of width 0. Numbers 1 to 7, 15, 16 and 17. */
+uint32_t niegluk_write_frame(const uint8_t *ty, size_t ty_len, const uint8_t *value, size_t value_len, uint8_t *out, size_t out_len, size_t *length);
+
+/* Reads a frame of a type, and writes its value file, 36 bytes a record. A frame is accepted if its length is the type's and no padding
+ * or tail bit is 1. At most 77,856,768 bytes. Numbers 1 to 7, 11, 12 and 17. */
+uint32_t niegluk_read_frame(const uint8_t *ty, size_t ty_len, const uint8_t *frame, size_t frame_len, uint8_t *out, size_t out_len, size_t *length);
 
 #ifdef __cplusplus
 }

@@ -8,7 +8,7 @@
 
 enum { MOST = 65536, SPARE = 16, FILL = 0xA5 };
 
-enum operation { LOWER, SHAPE, RECONSTRUCT };
+enum operation { LOWER, SHAPE, RECONSTRUCT, FRAME, UNFRAME };
 
 static uint8_t buffer[MOST + SPARE];
 static int failures;
@@ -89,6 +89,10 @@ static uint32_t call(enum operation op, const struct file *ty, const struct file
         return niegluk_write_shape(ty->bytes, ty->length, other->bytes, other->length, out, out_len, length);
     case RECONSTRUCT:
         return niegluk_reconstruct(ty->bytes, ty->length, other->bytes, other->length, out, out_len, length);
+    case FRAME:
+        return niegluk_write_frame(ty->bytes, ty->length, other->bytes, other->length, out, out_len, length);
+    case UNFRAME:
+        return niegluk_read_frame(ty->bytes, ty->length, other->bytes, other->length, out, out_len, length);
     }
     abort();
 }
@@ -159,6 +163,8 @@ static void types(void)
         struct file ty = hex(bad[i].type), empty = { { 0 }, 0 };
         refused(bad[i].name, LOWER, &ty, NULL, bad[i].number);
         refused(bad[i].name, SHAPE, &ty, &empty, bad[i].number);
+        refused(bad[i].name, FRAME, &ty, &empty, bad[i].number);
+        refused(bad[i].name, UNFRAME, &ty, &empty, bad[i].number);
         if (bad[i].number <= 5)
             refused(bad[i].name, RECONSTRUCT, &ty, &empty, bad[i].number);
     }
@@ -188,27 +194,27 @@ static void limits(void)
     expect(niegluk_lower(NULL, 0, buffer, MOST, &length) == 1 && length == 0, "no type", "no 1 for a null pointer with length 0");
 }
 
-/* Each value is written to its shape, and the shape is read back to the value's file. */
+/* Each value is written to its shape and its frame, and both are read back to the value's file. */
 static void values(void)
 {
-    static const struct { const char *name, *type, *value, *shape; } good[] = {
-        { "no elements", "07000004 02000001", "07000000", "31010" },
-        { "[1]", "07000004 02000001", "07000001 02000001:01", "310220" },
-        { "[1, 0]", "07000004 02000001", "07000002 02000001:01 02000001", "323201010" },
-        { "[1, 0, 1]", "07000004 02000001", "07000003 02000001:01 02000001 02000001:01", "3232010220" },
-        { "four hits, bound 8", "07000008 02000001", "07000004 02000001:01 02000001:01 02000001:01 02000001:01", "323320203202031010" },
-        { "variant 0", "08000003 09000000 09000001 02000001 09000002 02000001 01000000", "08000000", "10" },
-        { "variant 1", "08000003 09000000 09000001 02000001 09000002 02000001 01000000", "08000001 02000001:01", "2120" },
-        { "variant 2", "08000003 09000000 09000001 02000001 09000002 02000001 01000000", "08000002 02000001:01 01000000", "2232010" },
-        { "one variant", "08000001 09000001 02000001", "08000000 02000001:01", "20" },
-        { "the sample", "05000002 02000004 07000004 02000001", "05000002 02000004:09 07000001 02000001:01", "333201031020310220" },
-        { "right true", "03000000 02000004 01000000", "03010000 01010000", "220" },
-        { "left 9", "03000000 02000004 01000000", "03000000 02000004:09", "133201031020" },
-        { "some none", "04000000 04000000 01000000", "04010000 04000000", "210" },
-        { "()", "05000000", "05000000", "0" },
-        { "tuple of one", "05000001 01000000", "05000001 01010000", "20" },
-        { "array of 3 booleans", "06000003 01000000", "06000003 01000000 01010000 01010000", "31032020" },
-        { "array of 0", "06000000 01000000", "06000000", "0" },
+    static const struct { const char *name, *type, *value, *shape, *frame; } good[] = {
+        { "no elements", "07000004 02000001", "07000000", "31010", "00" },
+        { "[1]", "07000004 02000001", "07000001 02000001:01", "310220", "18" },
+        { "[1, 0]", "07000004 02000001", "07000002 02000001:01 02000001", "323201010", "c0" },
+        { "[1, 0, 1]", "07000004 02000001", "07000003 02000001:01 02000001 02000001:01", "3232010220", "d8" },
+        { "four hits, bound 8", "07000008 02000001", "07000004 02000001:01 02000001:01 02000001:01 02000001:01", "323320203202031010", "f800" },
+        { "variant 0", "08000003 09000000 09000001 02000001 09000002 02000001 01000000", "08000000", "10", "00" },
+        { "variant 1", "08000003 09000000 09000001 02000001 09000002 02000001 01000000", "08000001 02000001:01", "2120", "a0" },
+        { "variant 2", "08000003 09000000 09000001 02000001 09000002 02000001 01000000", "08000002 02000001:01 01000000", "2232010", "e0" },
+        { "one variant", "08000001 09000001 02000001", "08000000 02000001:01", "20", "80" },
+        { "the sample", "05000002 02000004 07000004 02000001", "05000002 02000004:09 07000001 02000001:01", "333201031020310220", "9180" },
+        { "right true", "03000000 02000004 01000000", "03010000 01010000", "220", "c0" },
+        { "left 9", "03000000 02000004 01000000", "03000000 02000004:09", "133201031020", "48" },
+        { "some none", "04000000 04000000 01000000", "04010000 04000000", "210", "80" },
+        { "()", "05000000", "05000000", "0", "" },
+        { "tuple of one", "05000001 01000000", "05000001 01010000", "20", "80" },
+        { "array of 3 booleans", "06000003 01000000", "06000003 01000000 01010000 01010000", "31032020", "60" },
+        { "array of 0", "06000000 01000000", "06000000", "0", "" },
     };
     static const struct { const char *name, *type, *value; uint32_t number; } bad[] = {
         { "no value", "01000000", "", 15 },
@@ -243,10 +249,14 @@ static void values(void)
         struct file ty = hex(good[i].type), val = value(good[i].value), shape = digits(good[i].shape);
         gives(good[i].name, SHAPE, &ty, &val, shape.bytes, shape.length);
         gives(good[i].name, RECONSTRUCT, &ty, &shape, val.bytes, val.length);
+        struct file frame = hex(good[i].frame);
+        gives(good[i].name, FRAME, &ty, &val, frame.bytes, frame.length);
+        gives(good[i].name, UNFRAME, &ty, &frame, val.bytes, val.length);
     }
     for (size_t i = 0; i < sizeof bad / sizeof *bad; i++) {
         struct file ty = hex(bad[i].type), val = value(bad[i].value);
         refused(bad[i].name, SHAPE, &ty, &val, bad[i].number);
+        refused(bad[i].name, FRAME, &ty, &val, bad[i].number);
     }
     for (size_t i = 0; i < sizeof odd / sizeof *odd; i++) {
         struct file ty = hex(odd[i].type), shape = digits(odd[i].shape), val = value(odd[i].value);
@@ -264,11 +274,29 @@ static void values(void)
     expect(niegluk_reconstruct(ty.bytes, ty.length, long_shape, MOST, buffer, MOST, &length) == 9 && length == 0 && untouched(0), "65,536 units", "not 9");
 }
 
+static void frames(void)
+{
+    static const struct { const char *name, *type, *frame; uint32_t number; } bad[] = {
+        { "no frame", "07000004 02000001", "", 11 },
+        { "a byte too many", "07000004 02000001", "0000", 11 },
+        { "a byte for ()", "05000000", "00", 11 },
+        { "a bit in a missing block", "07000004 02000001", "20", 12 },
+        { "a bit behind the frame", "07000004 02000001", "01", 12 },
+        { "a bit beside the narrower side", "03000000 02000004 01000000", "c8", 12 },
+        { "a bit under none", "04000000 02000008", "0100", 12 },
+    };
+    for (size_t i = 0; i < sizeof bad / sizeof *bad; i++) {
+        struct file ty = hex(bad[i].type), frame = hex(bad[i].frame);
+        refused(bad[i].name, UNFRAME, &ty, &frame, bad[i].number);
+    }
+}
+
 int main(void)
 {
     types();
     limits();
     values();
+    frames();
     if (failures != 0)
         return 1;
     printf("niegluk: all as expected\n");

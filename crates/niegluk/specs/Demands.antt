@@ -8,9 +8,10 @@ use lib.Seq.{take-at}
 use borrow.Author.Tests.{le-ltb}
 use Rattle.model.specs.Outcome.{Outcome, done}
 use Rattle.model.specs.Bytes.{Bytes}
-use Rattle.model.specs.Operations.{shaped, reconstructed, delivered}
-use Rattle.model.specs.Laws.Demands.{shape-reads-back, belonging-shape-reads}
-use Rattle.model.specs.Conditions.{ShapeBelongs}
+use Rattle.model.specs.Frames.{after}
+use Rattle.model.specs.Operations.{shaped, reconstructed, framed, unframed, delivered}
+use Rattle.model.specs.Laws.Demands.{shape-reads-back, belonging-shape-reads, frame-reads-back, accepted-frame-reads}
+use Rattle.model.specs.Conditions.{ShapeBelongs, FrameAccepted}
 use Rattle.structural.specs.Writing.{put}
 
 -- a result with room for it is delivered over the front of the buffer
@@ -38,3 +39,18 @@ module _ (ty : List ℕ) (b : Bytes ty) where
   value-returns shape out back s l m =
       let r = belonging-shape-reads ty b shape s in
       (delivers (reconstructed ty shape) (r .val) out (r .read) l, rw (cut-out (r .val) out) (delivers (shaped ty (r .val)) shape back (r .back) m))
+
+  -- what `write_frame` leaves in a buffer, `read_frame` turns into the value file it came from
+  pub frame-returns : (val frame out back : List ℕ) → Bytes val → framed after ty val ≡ done frame → length frame ≤ length out → length val ≤ length back
+      → (delivered (framed after ty val) out ≡ (0, length frame, put frame out)) × (delivered (unframed after ty (take (length frame) (put frame out))) back ≡ (0, length val, put val back))
+  frame-returns val frame out back c h l m = (
+    delivers (framed after ty val) frame out h l,
+    rw (cut-out frame out) (delivers (unframed after ty frame) val back (frame-reads-back ty b after val frame c h) m),
+  )
+
+  -- and of an accepted frame, `write_frame` writes what `read_frame` has read
+  pub frame-again : (frame out back : List ℕ) (c : Bytes frame) (a : FrameAccepted after ty frame) → let val = accepted-frame-reads ty b after frame c a .val in length val ≤ length out → length frame ≤ length back
+      → (delivered (unframed after ty frame) out ≡ (0, length val, put val out)) × (delivered (framed after ty (take (length val) (put val out))) back ≡ (0, length frame, put frame back))
+  frame-again frame out back c a l m =
+      let r = accepted-frame-reads ty b after frame c a in
+      (delivers (unframed after ty frame) (r .val) out (r .read) l, rw (cut-out (r .val) out) (delivers (framed after ty (r .val)) frame back (r .back) m))

@@ -93,10 +93,10 @@ pub fn write_frame(ty: &[u8], value: &[u8], out: &mut [u8]) -> Reply
     match tabulate(ty, &mut ends, &mut sizes, &mut widths) {
         TypeAnswer::Refused(x) => Reply::Refused(x),
         TypeAnswer::Ok(_) => match check_file(ty, &ends, value) {
-            Checked::Bad(x) => Reply::Refused(x),
+            Checked::Bad(why) => Reply::Refused(why),
             Checked::Next(_, _) => {
-                let len = (widths[0] + 7) / 8;
-                if out.len() < len {
+                let bytes = (widths[0] + 7) / 8;
+                if out.len() < bytes {
                     return Reply::Refused(Refusal::NoRoom);
                 }
                 Reply::Done(frame::write_frame(ty, &ends, &widths, value, out))

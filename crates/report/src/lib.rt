@@ -1,0 +1,70 @@
+// What the program `job` prints of a type file and a value file, made whole in a buffer.
+// The table is filled once and the value checked once; the three results are written into buffers that always hold them.
+use frame::write_frame;
+use reply::Refusal;
+use reply::refusal_number;
+use shape::write_shape;
+use structural::write_lowered;
+use table::tabulate;
+use text::write_job;
+use text::write_refusal;
+use types::TypeAnswer;
+use value::Checked;
+use value::check_file;
+ghost use Prim.Native.Nat.{_≤_};
+ghost use lib.ListN.{length};
+ghost use Rattle.io.specs.Counts.{Counts};
+ghost use Rattle.structural.specs.Writing.{Wrote};
+ghost use Rattle.reply.specs.Numbers.{refusalNumber};
+ghost use Rattle.text.specs.Lines.{refusal-line};
+ghost use Rattle.report.specs.Job.{job-text, Accepted};
+
+// The most bytes that a file may have.
+const MOST: usize = 65536;
+
+// Writes the line of a refusal, and answers its length.
+fn write_refused(x: Refusal, out: &mut [u8]) -> usize
+    requires { ⌜ 140000 ≤ length (now out) ⌝ }
+    ensures { λ r. ⌜ Wrote (refusal-line (refusalNumber x)) (now (out .entry)) (now (out .exit)) r ⌝ }
+{
+    write_refusal(refusal_number(x) as usize, out)
+}
+
+// Writes the three lines of a type that lowers and a value of it, and answers their length.
+fn write_accepted(ty: &[u8], ends: &[usize], widths: &[usize], val: &[u8], out: &mut [u8]) -> usize
+    requires { ⌜ Accepted (now ty) (now ends) (now widths) (now val) ⌝ }
+    requires { ⌜ 140000 ≤ length (now out) ⌝ }
+    ensures { λ r. ⌜ Wrote (job-text (now (ty .entry)) (now (val .entry))) (now (out .entry)) (now (out .exit)) r ⌝ }
+{
+    let mut lowered = [0u8; 65536];
+    let mut shape = [0u8; 65536];
+    let mut frame = [0u8; 4096];
+    let n = write_lowered(ty, ends, 0, 32, &mut lowered);
+    let m = write_shape(ty, ends, val, &mut shape);
+    let k = write_frame(ty, ends, widths, val, &mut frame);
+    write_job(&lowered[..n], &shape[..m], &frame[..k], out)
+}
+
+// Writes what `job` prints over the front of `out`, and answers its length.
+pub fn report(ty: &[u8], val: &[u8], out: &mut [u8]) -> usize
+    requires { ⌜ 140000 ≤ length (now out) ⌝ }
+    ensures { λ r. ⌜ Wrote (job-text (now (ty .entry)) (now (val .entry))) (now (out .entry)) (now (out .exit)) r ⌝ }
+    ensures { λ r. ⌜ Counts r (now (out .exit)) ⌝ }
+{
+    if MOST < ty.len() {
+        return write_refused(Refusal::NoRoom, out);
+    }
+    if MOST < val.len() {
+        return write_refused(Refusal::NoRoom, out);
+    }
+    let mut ends = [0usize; 1024];
+    let mut sizes = [0usize; 1024];
+    let mut widths = [0usize; 1024];
+    match tabulate(ty, &mut ends, &mut sizes, &mut widths) {
+        TypeAnswer::Refused(x) => write_refused(x, out),
+        TypeAnswer::Ok(_) => match check_file(ty, &ends, val) {
+            Checked::Bad(x) => write_refused(x, out),
+            Checked::Next(_, _) => write_accepted(ty, &ends, &widths, val, out),
+        },
+    }
+}

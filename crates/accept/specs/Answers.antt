@@ -3,7 +3,7 @@ use mathlib.Core.Path.{_≡_}
 use mathlib.Core.List.{List}
 use mathlib.Core.Option.{Option, none, some}
 use Prim.Native.Nat.{ℕ, _+_, _*_, _^_, _≤_, _<_, min}
-use lib.ListN.{length, getD}
+use lib.ListN.{length}
 use Rattle.reply.specs.Numbers.{refusalNumber}
 use Rattle.model.specs.Outcome.{Outcome, done, refused, _>>=_}
 use Rattle.model.specs.Balanced.{btree, fold}
@@ -13,8 +13,7 @@ use Rattle.model.specs.ValueFiles.{encode}
 use Rattle.model.specs.Frames.{width, unframe}
 use Rattle.model.specs.Operations.{lowering}
 use Rattle.types.specs.Trees.{typeOf}
-use Rattle.told.specs.declared.Parts.{Parts}
-use Rattle.told.specs.declared.Parts.the-variants.{Copies, Types}
+use Rattle.told.specs.declared.Parts.the-variants.{Types}
 use Rattle.rebuild.specs.Forms.{most-records}
 use Rattle.accept.specs.declared.Seen.{Seen}
 use Rattle.accept.specs.declared.Seen.the-variants.{Of, Stray}
@@ -44,11 +43,6 @@ both-of (Of n) Stray = Stray
 both-of (Of n) (Of m) = Of (cut (n + m))
 
 -- THE TABLE
-
--- the record that the table of ends says to be after the part at p
-abbrev pub after-at : Parts → List ℕ → ℕ → ℕ
-after-at Copies E p = p
-after-at Types E p = getD E p 0
 
 -- a sum of the n choices from record p on stands at a bit of a frame, padded up to another
 pub record Padded (d : ℕ) (s : List ℕ) (n p : ℕ) (fr : List ℕ) (bit end : ℕ) : Type 0 where

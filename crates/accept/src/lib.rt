@@ -9,12 +9,12 @@ use record::Form;
 use record::form_of;
 use reply::Refusal;
 use told::Parts;
+use told::after_part;
 use told::hop;
 use types::head_at;
 ghost use mathlib.Core.Path.{_≡_};
 ghost use mathlib.Core.Bool.{false};
 ghost use Prim.Native.Nat.{_≤_, _<_, _+_, _*_};
-ghost use lib.ListN.{length};
 ghost use Rattle.model.specs.Frames.{width};
 ghost use Rattle.types.specs.Heads.{FairBound};
 ghost use Rattle.types.specs.Steps.{Given};
@@ -27,7 +27,7 @@ ghost use Rattle.told.specs.Widths.{Wide};
 ghost use Rattle.rebuild.specs.Forms.{most-records};
 ghost use Rattle.accept.specs.declared.Seen.the-variants.{Of};
 ghost use Rattle.accept.specs.Forms.{seen, seen-row, row-width, seen-sum, seen-block, seen-list};
-ghost use Rattle.accept.specs.Answers.{count-of, both-of, answer, after-at, Padded, Lowered, accepted, outcome-of};
+ghost use Rattle.accept.specs.Answers.{count-of, both-of, answer, Padded, Lowered, accepted, outcome-of};
 
 // No value has more records than this, 33 for each of 65,536 of its shape: counting stops here.
 const MOST: usize = 2162688;
@@ -69,17 +69,6 @@ fn both(a: Seen, b: Seen) -> Seen
             Seen::Stray => Seen::Stray,
             Seen::Of(m) => add(n, m),
         },
-    }
-}
-
-// The record of the part after the one at `at`.
-fn after_part(ends: &[usize], at: usize, parts: Parts) -> usize
-    requires { ⌜ at < length (now ends) ⌝ }
-    ensures { λ r. ⌜ r ≡ after-at parts (now (ends .entry)) at ⌝ }
-{
-    match parts {
-        Parts::Copies => at,
-        Parts::Types => ends[at],
     }
 }
 

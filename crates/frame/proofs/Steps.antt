@@ -31,7 +31,8 @@ use Rattle.told.specs.Forms.{GivenParts, hops}
 use Rattle.told.specs.Forms as told
 use Rattle.told.specs.Laws.Lists.{block-share}
 use Rattle.told.specs.Widths.{Wide}
-use Rattle.frame.specs.Forms.{Bits, and-then, frame-at, row, tags, chosen, block, listed, Fitted, Framed, Tagged, after-at}
+use Rattle.told.specs.Forms.{after-at}
+use Rattle.frame.specs.Forms.{Bits, and-then, frame-at, row, tags, chosen, block, listed, Fitted, Framed, Tagged}
 use Rattle.frame.specs.Laws.Told.{frame-width}
 use Rattle.frame.specs.Laws.Lists.{tag-true, block-zeros, block-row, list-block, Halved, list-halved, share-one}
 use Rattle.frame.specs.Laws.Writing.{fitted-as, framed-as, framed-none, fitted-first, fitted-rest, framed-then}

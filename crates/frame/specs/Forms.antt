@@ -3,21 +3,19 @@ use mathlib.Core.Path.{_≡_}
 use mathlib.Core.Bool.{Bool, true, false}
 use mathlib.Core.List.{List, [], _∷_, _++_}
 use mathlib.Core.Option.{Option, some}
-use Prim.Native.Nat.{ℕ, zero, suc, _+_, _-_, _/_, _≤_}
+use Prim.Native.Nat.{ℕ, zero, suc, _+_, _-_, _≤_}
 use lib.Dec.{ltb}
-use lib.ListN.{length, getD}
+use lib.ListN.{length}
 use Rattle.num.specs.declared.NonZeroPow2Usize.{NonZeroPow2Usize}
 use Rattle.model.specs.Options.{pick, mapO, bindO}
 use Rattle.model.specs.Bytes.{zeros, bytes-for, fill}
 use Rattle.model.specs.Balanced.{BTree, leaf, fork, leaves, btree}
 use Rattle.model.specs.Structural.{SType, SValue}
 use Rattle.model.specs.Frames.{Place, after, width, bits}
-use Rattle.structural.specs.Forms.{Stands}
 use Rattle.structural.specs.Forms as structural
 use Rattle.structural.specs.Writing as bytes
 use Rattle.bits.specs.Bits.{Inside, Wrote}
 use Rattle.told.specs.declared.Parts.{Parts}
-use Rattle.told.specs.declared.Parts.the-variants.{Copies, Types}
 use Rattle.told.specs.Forms.{Told}
 use Rattle.told.specs.Forms as told
 use Rattle.told.specs.Laws.Lists.{block-told}
@@ -86,11 +84,6 @@ pub record Framed (o : Bits) (before : List ℕ) (bit : ℕ) (after : List ℕ) 
 pub record Tagged (t : List Bool) (before : List ℕ) (bit : ℕ) (after : List ℕ) (end : ℕ) : Type 0 where
   pub wrote : Wrote before bit t after
   pub ends : end ≡ bit + length t
-
--- the record that the table of ends says to be after the part at p
-abbrev pub after-at : Parts → List ℕ → ℕ → ℕ
-after-at Copies E p = p
-after-at Types E p = getD E p 0
 
 -- a shape is told, and the buffer has room for its frame's bytes
 pub record Room (a : SType) (o : Told) (out : List ℕ) : Type 0 where

@@ -8,8 +8,10 @@ use num::Bound;
 use num::NonZeroPow2Usize;
 use told::Form;
 use told::Parts;
+use told::after_part;
 use told::form_of;
 use told::hop;
+use told::share;
 use types::head_at;
 ghost use mathlib.Core.Path.{_≡_};
 ghost use mathlib.Core.Bool.{false};
@@ -25,9 +27,8 @@ ghost use Rattle.structural.specs.Forms as structural;
 ghost use Rattle.bits.specs.Bits.{Inside, Wrote};
 ghost use Rattle.told.specs.Forms.{GivenParts, record-bits};
 ghost use Rattle.told.specs.Forms as told;
-ghost use Rattle.told.specs.Laws.Lists.{block-share};
 ghost use Rattle.told.specs.Widths.{Wide};
-ghost use Rattle.frame.specs.Forms.{frame-at, row, tags, chosen, block, listed, Fitted, Framed, Tagged, after-at, Room, Filed};
+ghost use Rattle.frame.specs.Forms.{frame-at, row, tags, chosen, block, listed, Fitted, Framed, Tagged, Room, Filed};
 
 // The bytes of a record of a value file.
 const RECORD: usize = 36;
@@ -36,24 +37,6 @@ const RECORD: usize = 36;
 struct Row {
     next: usize,
     bit: usize,
-}
-
-// The elements that the block of `half` takes of m: all that it has place for, or none.
-fn share(m: usize, half: usize) -> usize
-    ensures { λ r. ⌜ r ≡ block-share m half ⌝ }
-{
-    if m < half { 0 } else { half }
-}
-
-// The record of the part after the one at `at`.
-fn after_part(ends: &[usize], at: usize, parts: Parts) -> usize
-    requires { ⌜ at < length (now ends) ⌝ }
-    ensures { λ r. ⌜ r ≡ after-at parts (now (ends .entry)) at ⌝ }
-{
-    match parts {
-        Parts::Copies => at,
-        Parts::Types => ends[at],
-    }
 }
 
 // Writes the n bits of record v from its bit j on.

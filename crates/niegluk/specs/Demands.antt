@@ -1,7 +1,7 @@
 -- Demand 2 of the entries: what one entry leaves in a buffer, the other turns back into the file it came from. A corollary of the entries' equations
 -- (their answers are `delivered` of the operations) and of the model's laws. Every list here is what a buffer holds.
-use mathlib.Core.Path.{_≡_, refl, sym, ap, _∙_}
-use mathlib.Core.List.{List, _++_}
+use mathlib.Core.Path.{_≡_, refl}
+use mathlib.Core.List.{List}
 use Prim.Native.Nat.{ℕ, _≤_}
 use lib.ListN.{length, take, drop}
 use lib.Seq.{take-at}

@@ -11,7 +11,7 @@ use Rattle.model.specs.Bytes.{bytes-for}
 use Rattle.model.specs.Lowering.{lower}
 use Rattle.model.specs.Values.{Value}
 use Rattle.model.specs.ValueFiles.{value-of}
-use Rattle.model.specs.Frames.{after, width, frame-bytes, frame-file}
+use Rattle.model.specs.Frames.{after, width, frame-file}
 use Rattle.model.specs.Operations.{framed}
 use Rattle.model.specs.Laws.FrameFiles.{length-frame-file}
 use Rattle.reply.specs.declared.Refusal.{Refusal}

@@ -23,7 +23,7 @@ use Rattle.reply.specs.declared.Refusal.the-variants.{NotReconstructed, NoRoom}
 use Rattle.reply.specs.declared.Reply.the-variants as reply
 use Rattle.types.specs.declared.TypeAnswer.{TypeAnswer}
 use Rattle.types.specs.declared.TypeAnswer.the-variants.{Ok, Refused}
-use Rattle.types.specs.Table.{EndsIf, Checked, readType}
+use Rattle.types.specs.Table.{EndsIf, Checked}
 use Rattle.types.specs.Trees.{tree, typeOf}
 use Rattle.types.specs.Steps.{Given}
 use Rattle.types.specs.Accepted.{accepted}

@@ -6,7 +6,7 @@ use native.Mathlib.Omega.{arith}
 use mir.Syntax.{w64}
 use mir.Val.{Fits}
 use lib.ListN.{length}
-use Rattle.model.specs.Outcome.{done, refused, _>>=_}
+use Rattle.model.specs.Outcome.{done, _>>=_}
 use Rattle.model.specs.Values.{Value}
 use Rattle.model.specs.ValueFiles.{encode, value-file}
 use Rattle.model.specs.Frames.{after, width, unframe}
@@ -29,7 +29,7 @@ use Rattle.accept.specs.Laws.Whole.{few-value}
 use Rattle.unframe.specs.Forms.{standing, Ready, Placed}
 use Rattle.unframe.specs.Laws.Whole.{read, whole-inside, whole-ready, whole-placed}
 use Rattle.niegluk.specs.Delivering.{Delivers, deliver-refusal, deliver-no-room, deliver-result}
-use Rattle.niegluk.specs.Values.{Had, was-refused, was-done}
+use Rattle.niegluk.specs.Values.{was-refused, was-done}
 use Rattle.niegluk.specs.Lowers.{lower-given, lowers}
 use Rattle.niegluk.specs.Frames.{frame-wide}
 

@@ -5,3 +5,4 @@ pub mod Products
 pub mod Sums
 pub mod Bits
 pub mod Formed
+pub mod Writing

@@ -1,22 +1,18 @@
 -- What `job` prints, by what its writer knows at each of its answers.
-use mathlib.Core.Path.{_≡_, refl, sym, ap, _∙_}
+use mathlib.Core.Path.{_≡_, refl, sym}
 use mathlib.Core.Bool.{false}
 use mathlib.Core.List.{List}
-use Prim.Native.Nat.{ℕ, _+_, _/_, _<_, _≤_}
+use Prim.Native.Nat.{ℕ, _<_, _≤_}
 use native.Mathlib.Omega.{arith}
-use lib.Dec.{lit<}
 use lib.ListN.{length, take, drop}
 use lib.Seq.{take-at, length-take-le}
 use borrow.Author.Tests.{lt-ltb, le-ltb}
-use Rattle.model.specs.Outcome.{done, refused}
-use Rattle.model.specs.Bytes.{bytes-for}
 use Rattle.model.specs.Structural.{type-records}
 use Rattle.model.specs.Lowering.{lower}
-use Rattle.model.specs.Values.{Value, inject}
+use Rattle.model.specs.Values.{inject}
 use Rattle.model.specs.ShapeFiles.{shape-file}
-use Rattle.model.specs.ValueFiles.{value-of}
-use Rattle.model.specs.Frames.{after, width, frame-bytes, frame-file}
-use Rattle.model.specs.Operations.{lowering, lowered, shaped, framed}
+use Rattle.model.specs.Frames.{after, frame-bytes, frame-file}
+use Rattle.model.specs.Operations.{lowered, shaped, framed}
 use Rattle.model.specs.Laws.FrameFiles.{length-frame-file}
 use Rattle.model.specs.Laws.Shapes.{inject-belongs}
 use Rattle.model.specs.Laws.Sizes.{shape-size, length-type-records, frame-limit}
@@ -27,7 +23,6 @@ use Rattle.types.specs.declared.TypeAnswer.{TypeAnswer}
 use Rattle.types.specs.declared.TypeAnswer.the-variants.{Ok, Refused}
 use Rattle.types.specs.Trees.{tree}
 use Rattle.types.specs.Lows.{low}
-use Rattle.types.specs.Steps.{Given}
 use Rattle.structural.specs.Forms as structural
 use Rattle.structural.specs.Writing.{put, Wrote}
 use Rattle.structural.specs.Laws.Writing.{wrote-length}

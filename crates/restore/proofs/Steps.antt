@@ -49,7 +49,7 @@ use Rattle.restore.specs.Laws.Made.{MadeOf, made-as, made-same, made-of}
 use Rattle.restore.specs.Laws.Splits.{Bit, bit-at, OneBit, bit-row-one, BitSides, bit-row-sides, product-none, none-product, product-one, ProductSides, product-sides}
 use Rattle.restore.specs.Laws.Turns.{Only, sum-one, Leftwards, Rightwards, sum-left, sum-right, sum-inside}
 use Rattle.restore.specs.Laws.Lists.{Empty, Full, block-inside, block-left, block-right, list-two, Halves, list-more}
-use Rattle.restore.specs.Laws.Writing.{first-room, first-fits, second-room, both-done, both-small, record-room, below-room, below-length, record-small, record-done, record-alone, returned, integer-put}
+use Rattle.record.specs.Laws.Writing.{first-room, first-fits, second-room, both-done, both-small, record-room, below-room, below-length, record-small, record-done, record-alone, returned, integer-put}
 
 -- what is found there is one thing
 module _ {A : Type 0} {g : Given A} {a c : A} {e n : ℕ} (h : g ≡ some (a, e)) (k : g ≡ some (c, n)) where

@@ -3,5 +3,4 @@ pub mod Places
 pub mod Splits
 pub mod Turns
 pub mod Lists
-pub mod Writing
 pub mod Whole

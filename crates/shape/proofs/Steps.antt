@@ -19,7 +19,8 @@ use Rattle.told.specs.declared.Parts.the-variants.{Copies, Types}
 use Rattle.told.specs.Forms.{Told, standing, after, skip, GivenParts, balanced, chosen}
 use Rattle.told.specs.Laws.Trees.{skip-add, balanced-none, balanced-one, balanced-step, given-one, given-left, given-right}
 use Rattle.told.specs.Laws.Lists.{chosen-one, chosen-left, chosen-right, block-told, block-none, block-some}
-use Rattle.shape.specs.Forms.{after-at, Ready, Placed}
+use Rattle.told.specs.Forms.{after-at}
+use Rattle.shape.specs.Forms.{Ready, Placed}
 use Rattle.shape.specs.Laws.Writing.{room-some, ready-room, Stem, left-stem, right-stem, Pair, pair-of}
 
 -- RECORDS

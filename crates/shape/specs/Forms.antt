@@ -4,22 +4,15 @@ use mathlib.Core.Bool.{Bool, true, false}
 use mathlib.Core.List.{List}
 use mathlib.Core.Option.{some}
 use Prim.Native.Nat.{ℕ, _+_, _/_, _≤_, _<_}
-use lib.ListN.{length, getD}
+use lib.ListN.{length}
 use Rattle.model.specs.Structural.{SValue, shape-records}
 use Rattle.structural.specs.Writing.{Wrote}
-use Rattle.told.specs.declared.Parts.{Parts}
-use Rattle.told.specs.declared.Parts.the-variants.{Copies, Types}
 use Rattle.told.specs.Forms.{Told}
 
 -- the tag of a bit
 abbrev pub tag-of : Bool → ℕ
 tag-of false = 1
 tag-of true = 2
-
--- the record that the table says to be after the part at p
-abbrev pub after-at : Parts → List ℕ → ℕ → ℕ
-after-at Copies E p = p
-after-at Types E p = getD E p 0
 
 -- n bits from bit j of record v on are there
 pub record BitsThere (val : List ℕ) (v j n : ℕ) : Type 0 where

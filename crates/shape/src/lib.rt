@@ -6,8 +6,10 @@ use num::Bound;
 use num::NonZeroPow2Usize;
 use told::Form;
 use told::Parts;
+use told::after_part;
 use told::form_of;
 use told::hop;
+use told::share;
 use types::head_at;
 ghost use mathlib.Core.Path.{_≡_};
 ghost use mathlib.Core.Bool.{false};
@@ -20,8 +22,8 @@ ghost use Rattle.types.specs.Steps.{Given};
 ghost use Rattle.structural.specs.Writing.{Wrote};
 ghost use Rattle.structural.specs.Forms.{most-parts, Stands};
 ghost use Rattle.told.specs.Forms.{standing, skip, GivenParts, bits-told, balanced, chosen, listed};
-ghost use Rattle.told.specs.Laws.Lists.{record-bit, block-told, block-share};
-ghost use Rattle.shape.specs.Forms.{tag-of, Room, BitsThere, after-at, Ready, Placed, Shaped};
+ghost use Rattle.told.specs.Laws.Lists.{record-bit, block-told};
+ghost use Rattle.shape.specs.Forms.{tag-of, Room, BitsThere, Ready, Placed, Shaped};
 
 // The records of a shape.
 const UNIT: u8 = 0;
@@ -59,13 +61,6 @@ fn tag(val: &[u8], v: usize, j: usize) -> u8
         return RIGHT;
     }
     LEFT
-}
-
-// The elements that the block of `half` takes of m: all that it has place for, or none.
-fn share(m: usize, half: usize) -> usize
-    ensures { λ r. ⌜ r ≡ block-share m half ⌝ }
-{
-    if m < half { 0 } else { half }
 }
 
 // Writes a unit, and answers its one byte.
@@ -142,17 +137,6 @@ fn write_record(
                 len: row.len,
             }
         }
-    }
-}
-
-// The record of the part after the one at `at`.
-fn after_part(ends: &[usize], at: usize, parts: Parts) -> usize
-    requires { ⌜ at < length (now ends) ⌝ }
-    ensures { λ r. ⌜ r ≡ after-at parts (now (ends .entry)) at ⌝ }
-{
-    match parts {
-        Parts::Copies => at,
-        Parts::Types => ends[at],
     }
 }
 

@@ -138,3 +138,8 @@ hops E (suc n) p = hops E n (getD E p 0)
 -- each of them stands in the table
 pub record Hops (E : List ℕ) (n p : ℕ) : Type 0 where
   pub each : (i : ℕ) → i < n → hops E i p < length E
+
+-- the record that the table says to be after the part at p
+abbrev pub after-at : Parts → List ℕ → ℕ → ℕ
+after-at Copies E p = p
+after-at Types E p = getD E p 0

@@ -7,7 +7,8 @@ use value::wide;
 ghost use mathlib.Core.Path.{_≡_};
 ghost use Prim.Native.Nat.{_<_, _/_};
 ghost use lib.ListN.{length};
-ghost use Rattle.told.specs.Forms.{choice-at, form-of, Read, hops, Hops};
+ghost use Rattle.told.specs.Forms.{choice-at, form-of, Read, hops, Hops, after-at};
+ghost use Rattle.told.specs.Laws.Lists.{block-share};
 
 // What the parts of a product are, and where they stand in the type file.
 pub enum Parts {
@@ -72,4 +73,22 @@ pub fn hop(ends: &[usize], at: usize, n: usize) -> usize
         left -= 1;
     }
     next
+}
+
+// The record of the part after the one at `at`.
+pub fn after_part(ends: &[usize], at: usize, parts: Parts) -> usize
+    requires { ⌜ at < length (now ends) ⌝ }
+    ensures { λ r. ⌜ r ≡ after-at parts (now (ends .entry)) at ⌝ }
+{
+    match parts {
+        Parts::Copies => at,
+        Parts::Types => ends[at],
+    }
+}
+
+// The elements that the block of `half` takes of m: all that it has place for, or none.
+pub fn share(m: usize, half: usize) -> usize
+    ensures { λ r. ⌜ r ≡ block-share m half ⌝ }
+{
+    if m < half { 0 } else { half }
 }

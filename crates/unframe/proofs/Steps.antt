@@ -28,12 +28,12 @@ use Rattle.record.specs.Marks.{bytes, written}
 use Rattle.record.specs.Trees.{numbered}
 use Rattle.accept.specs.Forms.{tag-at, row-width}
 use Rattle.told.specs.Widths.{Wide}
-use Rattle.accept.specs.Answers.{after-at}
+use Rattle.told.specs.Forms.{after-at}
 use Rattle.unframe.specs.declared.Numbered.{Numbered}
 use Rattle.unframe.specs.Forms.{standing, both, row, block, both-numbered, listed, Ready, ReadyNumbered, Placed, PlacedNumbered}
 use Rattle.unframe.specs.Laws.Formed.{Marked, Counted}
 use Rattle.unframe.specs.Laws.Lists.{block-none, block-all, Halved}
-use Rattle.unframe.specs.Laws.Writing.{first-room, first-fits, second-room, both-done, both-small, record-room, below-room, below-length, record-small, record-done, record-alone, lent, returned, integer-put}
+use Rattle.record.specs.Laws.Writing.{first-room, first-fits, second-room, both-done, both-small, record-room, below-room, below-length, record-small, record-done, record-alone, lent, returned, integer-put}
 
 -- a record that stands has a level, and its widths and its end stand in the tables
 pub level-some : {d : ℕ} {s E : List ℕ} {p : ℕ} → Stands d s E p → 1 ≤ d

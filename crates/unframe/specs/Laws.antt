@@ -2,5 +2,4 @@ pub mod Tags
 pub mod Parts
 pub mod Lists
 pub mod Formed
-pub mod Writing
 pub mod Whole

@@ -9,6 +9,7 @@ use record::Form;
 use record::form_of;
 use record::write_mark;
 use told::Parts;
+use told::after_part;
 use told::hop;
 use types::head_at;
 ghost use mathlib.Core.Path.{_≡_};
@@ -27,7 +28,6 @@ ghost use Rattle.bits.specs.Bits.{Inside};
 ghost use Rattle.told.specs.Forms.{GivenParts, Hops};
 ghost use Rattle.accept.specs.Forms.{tag-at, choice-in, row-width};
 ghost use Rattle.told.specs.Widths.{Wide};
-ghost use Rattle.accept.specs.Answers.{after-at};
 ghost use Rattle.unframe.specs.Forms.{standing, row, block, listed, height, Chosen, Ready, ReadyNumbered, Placed, PlacedNumbered};
 
 // The bytes of a value's record.
@@ -55,17 +55,6 @@ fn bit_number(frame: &[u8], bit: usize) -> usize
     ensures { λ r. ⌜ r ≡ bit-number (tag-at (now (frame .entry)) bit) ⌝ }
 {
     if get_bit(frame, bit) { 1 } else { 0 }
-}
-
-// The record of the part after the one at `at`.
-fn after_part(ends: &[usize], at: usize, parts: Parts) -> usize
-    requires { ⌜ at < length (now ends) ⌝ }
-    ensures { λ r. ⌜ r ≡ after-at parts (now (ends .entry)) at ⌝ }
-{
-    match parts {
-        Parts::Copies => at,
-        Parts::Types => ends[at],
-    }
 }
 
 // The one of the n choices from record `at` on that the tags from `bit` on lead to.

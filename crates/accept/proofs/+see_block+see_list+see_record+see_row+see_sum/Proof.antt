@@ -31,7 +31,7 @@ use Rattle.accept.proofs.+see_block+see_list+see_record+see_row+see_sum
 use Rattle.accept.proofs.see_sum.Reads as see-sum
 use Rattle.accept.proofs.see_sum.Kinds as see-sum-kinds
 use Rattle.accept.proofs.+see_block+see_list+see_record+see_row+see_sum.Lts-see_sum as see-sum-lts
-use Rattle.accept.proofs.after_part.Reads as after-part-reads
+use Rattle.told.proofs.after_part.Reads as after-part-reads
 use Rattle.accept.proofs.both.Reads as both-reads
 use Rattle.array.proofs.btree_split_index.Reads as btree-split-index-reads
 use Rattle.bits.proofs.get_bit.Reads as get-bit-reads

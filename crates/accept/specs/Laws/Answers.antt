@@ -11,7 +11,8 @@ use Rattle.rebuild.specs.Forms.{most-records}
 use Rattle.accept.specs.declared.Seen.{Seen}
 use Rattle.accept.specs.declared.Seen.the-variants.{Of, Stray}
 use Rattle.accept.specs.Forms.{plus}
-use Rattle.accept.specs.Answers.{cut, answer, count-of, both-of, after-at}
+use Rattle.told.specs.Forms.{after-at}
+use Rattle.accept.specs.Answers.{cut, answer, count-of, both-of}
 
 -- PLACES
 

@@ -33,7 +33,8 @@ use Rattle.rebuild.specs.Forms.{most-records}
 use Rattle.accept.specs.declared.Seen.{Seen}
 use Rattle.accept.specs.declared.Seen.the-variants.{Of, Stray}
 use Rattle.accept.specs.Forms.{tag-at, choice-in, unless, plus, seen, types-in, row-width, seen-row, seen-choice, seen-sum, seen-block, seen-blocks, seen-list}
-use Rattle.accept.specs.Answers.{answer, count-of, both-of, after-at, Padded}
+use Rattle.told.specs.Forms.{after-at}
+use Rattle.accept.specs.Answers.{answer, count-of, both-of, Padded}
 use Rattle.accept.specs.Laws.Sums.{choice-one, choice-left, choice-right}
 use Rattle.accept.specs.Laws.Seen.{skip-hops}
 use Rattle.accept.specs.Laws.Answers.{both-assoc, answer-plus, none-first, none-last}

@@ -36,8 +36,8 @@ use Rattle.frame.proofs.write_sum.Kinds as write-sum-kinds
 use Rattle.frame.proofs.+write_block+write_list+write_record+write_row+write_sum.Lts-write_sum as write-sum-lts
 use Rattle.bits.proofs.set_bit.Reads as set-bit-reads
 use Rattle.bits.proofs.write_zeros.Reads as write-zeros-reads
-use Rattle.frame.proofs.after_part.Reads as after-part-reads
-use Rattle.frame.proofs.share.Reads as share-reads
+use Rattle.told.proofs.after_part.Reads as after-part-reads
+use Rattle.told.proofs.share.Reads as share-reads
 use Rattle.frame.proofs.write_bits.Reads as write-bits-reads
 use Rattle.frame.proofs.write_tags.Reads as write-tags-reads
 use Rattle.num.proofs.NonZeroPow2Usize.checked_div2.Reads as checked-div2-reads

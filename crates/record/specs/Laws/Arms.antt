@@ -1,6 +1,6 @@
 -- The arms of `mark_of`, in the form in which the code's needs ask it.
-use mathlib.Core.Path.{_≡_, refl, sym, ap, subst, _∙_}
-use Prim.Native.Nat.{ℕ, _<_, _≤_}
+use mathlib.Core.Path.{_≡_, sym, ap, subst, _∙_}
+use Prim.Native.Nat.{ℕ, _<_}
 use native.Mathlib.Omega.{arith}
 use Rattle.num.specs.declared.Pow2Usize.{Pow2Usize}
 use Rattle.model.specs.ValueFiles.{Rec, rec}

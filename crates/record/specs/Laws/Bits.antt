@@ -1,15 +1,13 @@
 -- Bits and integers: a bit is the choice of a Boolean's record, and an integer is what a row of bits says.
 use mathlib.Core.Path.{_≡_, refl, sym, ap, _∙_}
-use mathlib.Core.Bool.{Bool, true, false}
-use mathlib.Core.List.{List, [], _∷_}
-use mathlib.Core.Option.{Option, none, some}
+use mathlib.Core.List.{[], _∷_}
 use Prim.Native.Nat.{ℕ}
 use Rattle.model.specs.Options.{mapO, bindO, mapM}
 use Rattle.model.specs.Bytes.{of-bits}
 use Rattle.model.specs.Structural.{SValue}
 use Rattle.model.specs.Types.{bool, uint}
 use Rattle.model.specs.Reconstruct.{as-tuple, as-bit, reconstruct}
-use Rattle.model.specs.ValueFiles.{Rec, rec, bit-number, encode}
+use Rattle.model.specs.ValueFiles.{rec, bit-number, encode}
 use Rattle.record.specs.Trees.{bit-row}
 use Rattle.record.specs.Laws.Maybe.{mapO-mapO, mapO-bindO}
 use Rattle.record.specs.Laws.Products.{records-of}

@@ -32,7 +32,7 @@ use Rattle.structural.specs.Laws.Forms.{stands}
 use Rattle.structural.specs.Laws.Bounds.{bound-small}
 use Rattle.table.specs.Arms.{wide}
 use Rattle.told.specs.declared.Parts.{Parts}
-use Rattle.told.specs.declared.Parts.the-variants.{Copies, Types}
+use Rattle.told.specs.declared.Parts.the-variants.{Types}
 use Rattle.told.specs.Forms.{GivenParts}
 use Rattle.told.specs.Laws.Rows.{first, given-types, given-copies}
 use Rattle.record.specs.Marks.{mark-of, Marks}

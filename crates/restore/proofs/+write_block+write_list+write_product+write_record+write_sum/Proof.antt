@@ -17,7 +17,7 @@ use Rattle.record.specs.Trees.{product, sum, elements}
 use Rattle.record.specs.Laws.Formed.{BitRead, IntegerRead, ProductRead, SumRead, ListRead, PayloadRead, as-nothing, as-boolean, as-integer, as-product, as-sum, as-list, as-payload}
 use Rattle.restore.specs.Forms.{made-at, standing}
 use Rattle.restore.specs.Laws.Lists.{Halves}
-use Rattle.restore.specs.Laws.Writing.{lent-length}
+use Rattle.record.specs.Laws.Writing.{lent-length}
 use Rattle.restore.proofs.Steps.{level-some, next-fits, stands-inside, Shares, shares, skip-none, skip-copy, skip-type, skip-both, one-given, left-given, right-given, given-hops, hopped-given, none-found, none-placed, one-ready, one-placed, parts-fit, left-ready, left-fits, right-ready, sides-placed, sides-small, ready-as, placed-as, placed-length, numbered-length, only-ready, only-placed, choice-inside, choice-fits, first-ready, first-placed, others-ready, others-placed, block-starts, block-fits, empty-fits, empty-placed, full-ready, full-placed, two-ready, two-placed, halves, list-fits, block-ready, block-ends, list-ready, list-placed, list-small, count-small, Under, under, under-start, under-ready, under-back, under-small, under-placed, UnderNumbered, under-numbered, numbered-start, numbered-ready, numbered-back, numbered-small, numbered-placed, nothing-there, payload-is, choice-below, count-below, side-some, side-few, side-inside, bit-room, side-fits, bit-marks, bit-done, integer-found, integer-room, integer-marks, integer-done}
 use Rattle.restore.proofs.write_block.Reads as write-block
 use Rattle.restore.proofs.write_block.Kinds as write-block-kinds

@@ -41,8 +41,8 @@ use Rattle.shape.proofs.+write_block+write_list+write_record+write_sum+
 use Rattle.array.proofs.btree_split_index.Reads as btree-split-index-reads
 use Rattle.num.proofs.NonZeroPow2Usize.checked_div2.Reads as checked-div2-reads
 use Rattle.num.proofs.NonZeroPow2Usize.get.Reads as get-reads
-use Rattle.shape.proofs.after_part.Reads as after-part-reads
-use Rattle.shape.proofs.share.Reads as share-reads
+use Rattle.told.proofs.after_part.Reads as after-part-reads
+use Rattle.told.proofs.share.Reads as share-reads
 use Rattle.shape.proofs.write_bits.Reads as write-bits-reads
 use Rattle.shape.proofs.write_unit.Reads as write-unit-reads
 use Rattle.told.proofs.form_of.Reads as form-of-reads

@@ -48,7 +48,7 @@ use Rattle.num.proofs.NonZeroPow2Usize.get.Reads as get-reads
 use Rattle.record.proofs.form_of.Reads as form-of-reads
 use Rattle.record.proofs.write_mark.Reads as write-mark-reads
 use Rattle.types.proofs.head_at.Reads as head-at-reads
-use Rattle.unframe.proofs.after_part.Reads as after-part-reads
+use Rattle.told.proofs.after_part.Reads as after-part-reads
 use Rattle.unframe.proofs.bit_number.Reads as bit-number-reads
 use Rattle.unframe.proofs.find_choice.Reads as find-choice-reads
 use Rattle.unframe.proofs.+write_block+write_list+write_record+write_row.{statement}

@@ -3,10 +3,10 @@ use mathlib.Core.Path.{_≡_, sym, ap, _∙_}
 use mathlib.Core.List.{List}
 use Prim.Native.Nat.{ℕ}
 use borrow.Author.Needs.{needs}
 use Rattle.told.specs.declared.Parts.{Parts}
-use Rattle.accept.specs.Answers.{after-at}
-use Rattle.unframe.proofs.after_part.Statement.{statement}
-use Rattle.unframe.proofs.after_part.Tie as tie
+use Rattle.told.specs.Forms.{after-at}
+use Rattle.told.proofs.after_part.Statement.{statement}
+use Rattle.told.proofs.after_part.Tie as tie
 
 by-parts : (k j : Parts) (E : List ℕ) (p q : ℕ) → k ≡ j → q ≡ after-at j E p → q ≡ after-at k E p
 by-parts k j E p q e h = h ∙ ap (λ (x : Parts). after-at x E p) (sym e)

@@ -3,9 +3,9 @@ use mathlib.Core.Path.{_≡_}
 use Prim.Native.Nat.{ℕ, _<_, _≤_}
 use borrow.Author.Needs.{needs}
 use borrow.Author.Tests.{lt-ltb, le-ltb}
 use Rattle.told.specs.Laws.Lists.{block-share}
-use Rattle.shape.proofs.share.Statement.{statement}
-use Rattle.shape.proofs.share.Tie as tie
+use Rattle.told.proofs.share.Statement.{statement}
+use Rattle.told.proofs.share.Tie as tie
 
 none : (m h : ℕ) → m < h → 0 ≡ block-share m h
 none m h l = rw (lt-ltb m h l)

@@ -1,7 +1,7 @@
-/* niegluk: files of types, values, shapes and frames.
+/* niegluk: files of types, values, shapes and frames, and paths into frames.
  *
- * Every function takes whole files as bytes, writes its result to the front of a buffer that the caller lends, and
- * answers a number: 0 where the operation is accepted, else the number of the first row that refuses it.
+ * Every function takes whole files as bytes, writes its result to the front of a buffer that the caller lends (an edit: to the
+ * frame's own bytes), and answers a number: 0 where the operation is accepted, else the number of the first row that refuses it.
  *
  *     1   the type file's length is zero or no multiple of 4
  *     2   the type file has over 1,024 records
@@ -15,8 +15,10 @@
  *    10   the shape does not read as a value of the type
  *    11   the frame's length is another than the type's
  *    12   a padding or tail bit of the frame is 1
+ *    13   the path's length is odd
+ *    14   the path leads to no part of the frame's value
  *    15   the value file's length is zero or no multiple of 36
- *    16   the value file is not one value of the type
+ *    16   the value file is not one value of the type (for an edit, of the part's type)
  *    17   the result needs more bytes than the buffer has
  *
  * The length of the result goes to *length: 0 where the operation is refused. A buffer of exactly that length is enough.
@@ -33,8 +35,8 @@
  *
  * Stack: lend each of them 128 KiB. That is measured, not proved. Up to 24 KiB are for a table; the rest grows with the type's depth and,
  * except for frames, with the logarithm of the parts at each level. The most that was found on x86-64: 93 KiB for lower and
- * write_shape and 84 for reconstruct, with 31 tuples of 33 parts inside each other; 55 for write_frame, with 31 lists inside each
- * other; 53 for read_frame, with 15 enums.
+ * write_shape and 84 for reconstruct, with 31 tuples of 33 parts inside each other; 55 for write_frame and part_edit, with 31
+ * lists inside each other; 53 for read_frame and part_read, with 15 enums.
  */
 #ifndef NIEGLUK_H
 #define NIEGLUK_H
@@ -66,6 +68,16 @@ uint32_t niegluk_write_frame(const uint8_t *ty, size_t ty_len, const uint8_t *va
 /* Reads a frame of a type, and writes its value file, 36 bytes a record. A frame is accepted if its length is the type's and no padding
  * or tail bit is 1. At most 77,856,768 bytes. Numbers 1 to 7, 11, 12 and 17. */
 uint32_t niegluk_read_frame(const uint8_t *ty, size_t ty_len, const uint8_t *frame, size_t frame_len, uint8_t *out, size_t out_len, size_t *length);
+
+/* Reads a part of a frame, and writes its value file, 36 bytes a record. A path is two-byte steps, high byte first, of any number. Tuple,
+ * Array, List: index. Either: 0 or 1, the side taken. Option: 0, if some. Enum: index in the payload of the variant present. The empty
+ * path is the whole. At most 77,856,768 bytes. Numbers 1 to 7, 11 to 14 and 17. */
+uint32_t niegluk_part_read(const uint8_t *ty, size_t ty_len, const uint8_t *frame, size_t frame_len, const uint8_t *path, size_t path_len, uint8_t *out, size_t out_len, size_t *length);
+
+/* Replaces a part of a frame by a value of the part's type, in the frame's own bytes: the part's bits, its inner padding included, are those
+ * of the new value's frame, and no other bit changes. *length is frame_len where accepted. Refused, no bit of the frame changes.
+ * Numbers 1 to 7 and 11 to 16. */
+uint32_t niegluk_part_edit(const uint8_t *ty, size_t ty_len, uint8_t *frame, size_t frame_len, const uint8_t *path, size_t path_len, const uint8_t *value, size_t value_len, size_t *length);
 
 #ifdef __cplusplus
 }

@@ -291,12 +291,96 @@ static void frames(void)
     }
 }
 
+/* An edit of a copy of the frame: the number, the length and every byte of the copy, and of what lies behind it. */
+static void edits(const char *name, const struct file *ty, const struct file *frame, const struct file *path, const struct file *val, uint32_t number, const struct file *left)
+{
+    size_t length = 12345;
+    memset(buffer, FILL, sizeof buffer);
+    memcpy(buffer, frame->bytes, frame->length);
+    uint8_t *lent = frame->length == 0 ? NULL : buffer;
+    expect(niegluk_part_edit(ty->bytes, ty->length, lent, frame->length, path->bytes, path->length, val->bytes, val->length, &length) == number, name, "another number for the edit");
+    expect(length == (number == 0 ? frame->length : 0), name, "another length for the edit");
+    expect(memcmp(buffer, left->bytes, frame->length) == 0, name, "another frame is left");
+    expect(untouched(frame->length), name, "a byte behind the frame changed");
+}
+
+/* The part is read with buffers of several lengths. */
+static void reads(const char *name, const struct file *ty, const struct file *frame, const struct file *path, uint32_t number, const struct file *val)
+{
+    const size_t rooms[] = { MOST, val->length, val->length - 1 };
+    for (size_t k = 0; k < (number == 0 ? 3 : 1); k++) {
+        size_t length = 12345;
+        uint32_t expected = k == 2 ? 17 : number;
+        size_t bytes = expected == 0 ? val->length : 0;
+        memset(buffer, FILL, sizeof buffer);
+        expect(niegluk_part_read(ty->bytes, ty->length, frame->bytes, frame->length, path->bytes, path->length, buffer, rooms[k], &length) == expected, name, "another number for the part");
+        expect(length == bytes, name, "another length for the part");
+        expect(memcmp(buffer, val->bytes, bytes) == 0 && untouched(bytes), name, "another part, or a byte past its end changed");
+    }
+}
+
+static void parts(void)
+{
+    static const char job[] = "05000002 02000004 07000004 02000001", hits[] = "07000008 02000001";
+    static const char variants[] = "08000003 09000000 09000001 02000001 09000002 02000001 01000000", either[] = "03000000 02000004 01000000";
+    /* the part that stands there, a new value for it, and the frame afterwards */
+    static const struct { const char *name, *type, *frame, *path, *part, *value, *left; } good[] = {
+        { "the u4", job, "9180", "0000", "02000004:09", "02000004:06", "6180" },
+        { "the list", job, "9180", "0001", "07000001 02000001:01", "07000003 02000001:01 02000001 02000001:01", "9d80" },
+        { "an element", job, "9180", "0001 0000", "02000001:01", "02000001", "9100" },
+        { "the whole", job, "9180", "", "05000002 02000004:09 07000001 02000001:01", "05000002 02000004:06 07000000", "6000" },
+        { "the fourth of four hits", hits, "f800", "0003", "02000001:01", "02000001", "f000" },
+        { "the sixth of six hits, in the second block", hits, "ff00", "0005", "02000001:01", "02000001", "fe00" },
+        { "the right side", either, "c0", "0001", "01010000", "01000000", "80" },
+        { "the left side", either, "48", "0000", "02000004:09", "02000004:0f", "78" },
+        { "a payload", variants, "e0", "0001", "01000000", "01010000", "f0" },
+        { "what is in a some", "04000000 02000002", "e0", "0000", "02000002:03", "02000002:01", "a0" },
+        { "a part of width 0", "05000002 05000000 01000000", "80", "0000", "05000000", "05000000", "80" },
+        { "the last of an array", "06000003 02000002", "e4", "0002", "02000002:01", "02000002:02", "e8" },
+    };
+    static const struct { const char *name, *type, *frame, *path, *value; uint32_t read, edit; } bad[] = {
+        { "an element that is not there", job, "9180", "0001 0001", "02000001", 14, 14 },
+        { "a third part of two", job, "9180", "0002", "02000004", 14, 14 },
+        { "under a u4", job, "9180", "0000 0000", "02000001", 14, 14 },
+        { "the other side", either, "c0", "0000", "02000004", 14, 14 },
+        { "a third side", either, "c0", "0002", "01000000", 14, 14 },
+        { "in a none", "04000000 02000002", "00", "0000", "02000002", 14, 14 },
+        { "a step of three bytes", job, "9180", "000000", "02000004", 13, 13 },
+        { "odd before all others", job, "9180", "000900", "", 13, 13 },
+        { "a frame too short", job, "91", "0000", "02000004", 11, 11 },
+        { "a tail bit", job, "9181", "0000", "02000004", 12, 12 },
+        { "never", "00000000", "", "0000", "02000004", 6, 6 },
+    };
+    static const struct { const char *name, *type, *frame, *path, *value; uint32_t number; } none[] = {
+        { "no value", job, "9180", "0000", "", 15 },
+        { "a value of another type", job, "9180", "0000", "02000001:01", 16 },
+        { "a value of the whole's type", job, "9180", "0000", "05000002 02000004:09 07000001 02000001:01", 16 },
+        { "no such part before no value", job, "9180", "0002", "", 14 },
+    };
+    for (size_t i = 0; i < sizeof good / sizeof *good; i++) {
+        struct file ty = hex(good[i].type), frame = hex(good[i].frame), path = hex(good[i].path), part = value(good[i].part), val = value(good[i].value), left = hex(good[i].left);
+        reads(good[i].name, &ty, &frame, &path, 0, &part);
+        edits(good[i].name, &ty, &frame, &path, &val, 0, &left);
+        edits(good[i].name, &ty, &left, &path, &part, 0, &frame);
+    }
+    for (size_t i = 0; i < sizeof bad / sizeof *bad; i++) {
+        struct file ty = hex(bad[i].type), frame = hex(bad[i].frame), path = hex(bad[i].path), val = value(bad[i].value);
+        reads(bad[i].name, &ty, &frame, &path, bad[i].read, &val);
+        edits(bad[i].name, &ty, &frame, &path, &val, bad[i].edit, &frame);
+    }
+    for (size_t i = 0; i < sizeof none / sizeof *none; i++) {
+        struct file ty = hex(none[i].type), frame = hex(none[i].frame), path = hex(none[i].path), val = value(none[i].value);
+        edits(none[i].name, &ty, &frame, &path, &val, none[i].number, &frame);
+    }
+}
+
 int main(void)
 {
     types();
     limits();
     values();
     frames();
+    parts();
     if (failures != 0)
         return 1;
     printf("niegluk: all as expected\n");

@@ -63,3 +63,11 @@ accepted t file = unframe place t file >>= (λ v. done (length (encode t v)))
 abbrev pub outcome-of : Accepted → Outcome ℕ
 outcome-of (Records n) = done n
 outcome-of (Refused x) = refused (refusalNumber x)
+
+-- A PART
+
+-- a value is seen, and its records are few enough to be counted
+pub record Counted (o : Option ℕ) : Type 0 where
+  pub count : ℕ
+  pub there : o ≡ some count
+  pub few : count ≤ most-records

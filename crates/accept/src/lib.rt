@@ -14,6 +14,7 @@ use told::hop;
 use types::head_at;
 ghost use mathlib.Core.Path.{_≡_};
 ghost use mathlib.Core.Bool.{false};
+ghost use mathlib.Core.Option.{some};
 ghost use Prim.Native.Nat.{_≤_, _<_, _+_, _*_};
 ghost use Rattle.model.specs.Frames.{width};
 ghost use Rattle.types.specs.Heads.{FairBound};
@@ -27,7 +28,7 @@ ghost use Rattle.told.specs.Widths.{Wide};
 ghost use Rattle.rebuild.specs.Forms.{most-records};
 ghost use Rattle.accept.specs.declared.Seen.the-variants.{Of};
 ghost use Rattle.accept.specs.Forms.{seen, seen-row, row-width, seen-sum, seen-block, seen-list};
-ghost use Rattle.accept.specs.Answers.{count-of, both-of, answer, Padded, Lowered, accepted, outcome-of};
+ghost use Rattle.accept.specs.Answers.{count-of, both-of, answer, Padded, Lowered, Counted, accepted, outcome-of};
 
 // No value has more records than this, 33 for each of 65,536 of its shape: counting stops here.
 const MOST: usize = 2162688;
@@ -286,5 +287,27 @@ pub fn accept(ty: &[u8], ends: &[usize], widths: &[usize], frame: &[u8]) -> Acce
     match see_record(ty, ends, widths, 0, LEVELS, frame, 0) {
         Seen::Stray => Accepted::Refused(Refusal::StrayBit),
         Seen::Of(n) => Accepted::Records(n),
+    }
+}
+
+// How many records the value has that stands in an accepted frame from `bit` on, as one of the type at record `at`, with `level` levels from there on.
+pub fn part_records(
+    ty: &[u8],
+    ends: &[usize],
+    widths: &[usize],
+    at: usize,
+    level: usize,
+    frame: &[u8],
+    bit: usize,
+) -> usize
+    requires { ⌜ Stands level (now ty) (now ends) at ⌝ }
+    requires { ⌜ Wide (now ty) (now ends) (now widths) ⌝ }
+    requires { ⌜ Inside (now frame) bit (width (standing level (now ty) at)) ⌝ }
+    requires { ⌜ Counted (seen level (now ty) at (now frame) bit) ⌝ }
+    ensures { λ r. ⌜ seen level (now (ty .entry)) at (now (frame .entry)) bit ≡ some r ⌝ }
+{
+    match see_record(ty, ends, widths, at, level, frame, bit) {
+        Seen::Of(n) => n,
+        Seen::Stray => 0,
     }
 }

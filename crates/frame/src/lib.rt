@@ -69,7 +69,7 @@ fn write_tags(buf: &mut [u8], bit: usize, n: usize, i: usize) -> usize
 }
 
 // Writes the frame of the value at record v of what stands at record `at` of the type, with `level` levels from there on, and answers the record after the value.
-fn write_record(
+pub fn write_record(
     ty: &[u8],
     ends: &[usize],
     widths: &[usize],

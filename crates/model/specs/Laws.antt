@@ -22,3 +22,5 @@ pub mod Lowering
 pub mod Operations
 pub mod Demands
 pub mod Cases
+pub mod Numbered
+pub mod Edits

@@ -17,4 +17,5 @@ pub mod Paths
 pub mod Parts
 pub mod Operations
 pub mod Conditions
+pub mod Edits
 pub mod Laws

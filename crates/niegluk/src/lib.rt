@@ -1,6 +1,8 @@
 // The public entries: each takes whole files and a buffer for its result, asks nothing of its caller, and answers a `Reply`.
 use accept::Accepted;
 use accept::accept;
+use edit::edit_part;
+use edit::read_part;
 use rebuild::Records;
 use rebuild::ShapeAnswer;
 use rebuild::check_shape;
@@ -15,8 +17,9 @@ use types::check_type;
 use value::Checked;
 use value::check_file;
 ghost use mathlib.Core.Path.{_≡_};
+ghost use Rattle.model.specs.Edits.{Edited};
 ghost use Rattle.model.specs.Frames.{after};
-ghost use Rattle.model.specs.Operations.{lowered, shaped, reconstructed, framed, unframed, delivered};
+ghost use Rattle.model.specs.Operations.{lowered, shaped, reconstructed, framed, unframed, part-read, edited, delivered};
 ghost use Rattle.reply.specs.Numbers.{numberOf, lengthOf};
 
 mod c;
@@ -124,5 +127,33 @@ pub fn read_frame(ty: &[u8], frame: &[u8], out: &mut [u8]) -> Reply
                 Reply::Done(unframe::write_value(ty, &ends, &widths, frame, out))
             }
         },
+    }
+}
+
+// Writes the value file of the part that a path leads to in an accepted frame over the front of `out`, and answers its length; every byte behind it stays, and all of them where it is refused.
+pub fn part_read(ty: &[u8], frame: &[u8], path: &[u8], out: &mut [u8]) -> Reply
+    ensures { λ r. ⌜ (numberOf r, lengthOf r, now (out .exit)) ≡ delivered (part-read after (now (ty .entry)) (now (frame .entry)) (now (path .entry))) (now (out .entry)) ⌝ }
+{
+    let mut ends = [0usize; 1024];
+    let mut sizes = [0usize; 1024];
+    let mut widths = [0usize; 1024];
+    match tabulate(ty, &mut ends, &mut sizes, &mut widths) {
+        TypeAnswer::Refused(x) => Reply::Refused(x),
+        TypeAnswer::Ok(_) => read_part(ty, &ends, &widths, frame, path, out),
+    }
+}
+
+// Replaces the part that a path leads to in an accepted frame by a value of the part's type, in the frame's own bytes, and answers the frame's length; no bit outside the part's own stretch changes, and none at all where it is refused.
+// The second promise is demand 3, whole.
+pub fn part_edit(ty: &[u8], frame: &mut [u8], path: &[u8], value: &[u8]) -> Reply
+    ensures { λ r. ⌜ (numberOf r, lengthOf r, now (frame .exit)) ≡ delivered (edited after (now (ty .entry)) (now (frame .entry)) (now (path .entry)) (now (value .entry))) (now (frame .entry)) ⌝ }
+    ensures { λ r. ⌜ Edited after (now (ty .entry)) (now (frame .entry)) (now (path .entry)) (now (value .entry)) (numberOf r) (lengthOf r) (now (frame .exit)) ⌝ }
+{
+    let mut ends = [0usize; 1024];
+    let mut sizes = [0usize; 1024];
+    let mut widths = [0usize; 1024];
+    match tabulate(ty, &mut ends, &mut sizes, &mut widths) {
+        TypeAnswer::Refused(x) => Reply::Refused(x),
+        TypeAnswer::Ok(_) => edit_part(ty, &ends, &widths, frame, path, value),
     }
 }

@@ -38,9 +38,9 @@ use Rattle.frame.specs.Laws.Files.{frame-room, frame-filed}
 use Rattle.text.specs.Lines.{job-lines, refusal-line}
 use Rattle.text.specs.Laws.Sizes.{job-short, refusal-short}
 use Rattle.io.specs.Counts.{Counts}
-use Rattle.niegluk.specs.Lowers.{lower-given, lowers, lowers-small}
-use Rattle.niegluk.specs.Values.{value-refused, value-read, value-valid}
-use Rattle.niegluk.specs.Frames.{frame-wide}
+use Rattle.delivery.specs.Lowers.{lower-given, lowers, lowers-small}
+use Rattle.delivery.specs.Values.{value-refused, value-read, value-valid}
+use Rattle.delivery.specs.Frames.{frame-wide}
 use Rattle.report.specs.Job.{most, job, job-text, Accepted}
 
 -- what was written over the front of a buffer is what its length cuts out of it

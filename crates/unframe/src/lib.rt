@@ -37,10 +37,10 @@ const RECORD: usize = 36;
 const LEVELS: usize = 32;
 
 // The number of a choice, the type's record of it, and the bit at which it begins.
-struct Choice {
-    number: usize,
-    at: usize,
-    bit: usize,
+pub struct Choice {
+    pub number: usize,
+    pub at: usize,
+    pub bit: usize,
 }
 
 // How many elements were written, and in how many bytes.
@@ -58,7 +58,7 @@ fn bit_number(frame: &[u8], bit: usize) -> usize
 }
 
 // The one of the n choices from record `at` on that the tags from `bit` on lead to.
-fn find_choice(ends: &[usize], at: usize, n: usize, frame: &[u8], bit: usize) -> Choice
+pub fn find_choice(ends: &[usize], at: usize, n: usize, frame: &[u8], bit: usize) -> Choice
     requires { ⌜ (1 ≤ n) × (n ≤ 65536) ⌝ }
     requires { ⌜ Hops (now ends) n at ⌝ }
     requires { ⌜ Inside (now frame) bit (height (btree n)) ⌝ }
@@ -85,7 +85,7 @@ fn find_choice(ends: &[usize], at: usize, n: usize, frame: &[u8], bit: usize) ->
 }
 
 // Writes the value that stands in the frame from `bit` on as one of what stands at record `at`, a type or a Variant's payload, with `level` levels from there on, and answers the bytes written.
-fn write_record(
+pub fn write_record(
     ty: &[u8],
     ends: &[usize],
     widths: &[usize],

@@ -452,10 +452,10 @@ fn check_payload(
     }
 }
 
-// Rows 15 and 16 of a whole value file of an accepted type: how many records it has and how many its shape, or the fault that comes first.
-pub fn check_file(ty: &[u8], ends: &[usize], val: &[u8]) -> Checked
-    requires { ⌜ Given 32 false (now ty) (now ends) 0 ⌝ }
-    ensures { λ r. ⌜ r ≡ file-answer (tree 32 (now (ty .entry)) 0) (now (val .entry)) ⌝ }
+// Rows 15 and 16 of a value file as one of the type at place `at`, with `level` levels from there on: how many records it has and how many its shape, or the fault that comes first.
+pub fn check_part(ty: &[u8], ends: &[usize], at: usize, level: usize, val: &[u8]) -> Checked
+    requires { ⌜ Given level false (now ty) (now ends) at ⌝ }
+    ensures { λ r. ⌜ r ≡ file-answer (tree level (now (ty .entry)) at) (now (val .entry)) ⌝ }
 {
     let n = val.len();
     if n == 0 {
@@ -464,7 +464,7 @@ pub fn check_file(ty: &[u8], ends: &[usize], val: &[u8]) -> Checked
     if n % 36 != 0 {
         return Checked::Bad(Refusal::ValueLength);
     }
-    match check_value(ty, ends, 0, 32, val, 0, 0) {
+    match check_value(ty, ends, at, level, val, 0, 0) {
         Checked::Next(e, size) => if e == n / 36 {
             Checked::Next(e, size)
         } else {
@@ -472,4 +472,12 @@ pub fn check_file(ty: &[u8], ends: &[usize], val: &[u8]) -> Checked
         },
         Checked::Bad(x) => Checked::Bad(x),
     }
+}
+
+// Of a whole value file of an accepted type.
+pub fn check_file(ty: &[u8], ends: &[usize], val: &[u8]) -> Checked
+    requires { ⌜ Given 32 false (now ty) (now ends) 0 ⌝ }
+    ensures { λ r. ⌜ r ≡ file-answer (tree 32 (now (ty .entry)) 0) (now (val .entry)) ⌝ }
+{
+    check_part(ty, ends, 0, 32, val)
 }

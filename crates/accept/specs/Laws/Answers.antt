@@ -12,7 +12,7 @@ use Rattle.accept.specs.declared.Seen.{Seen}
 use Rattle.accept.specs.declared.Seen.the-variants.{Of, Stray}
 use Rattle.accept.specs.Forms.{plus}
 use Rattle.told.specs.Forms.{after-at}
-use Rattle.accept.specs.Answers.{cut, answer, count-of, both-of}
+use Rattle.accept.specs.Answers.{cut, answer, count-of, both-of, Counted}
 
 -- PLACES
 
@@ -70,3 +70,15 @@ none-first (some n) = ap Of (omega arith)
 pub none-last : (a : Seen) → count-of a ≤ most-records → both-of a (answer (some 0)) ≡ a
 none-last Stray h = refl
 none-last (Of n) h = ap Of (omega arith)
+
+-- A PART: r is what the walk answers
+
+module _ (r : Seen) (o : Option ℕ) (c : Counted o) (e : r ≡ answer o) where
+  counted-is : r ≡ Of (c .count)
+  counted-is = e ∙ ap answer (c .there) ∙ ap Of (omega (arith, c .few))
+
+  pub part-counted : (n : ℕ) → r ≡ Of n → o ≡ some n
+  part-counted n h = let i : c .count ≡ n = ap count-of (sym counted-is ∙ h) in c .there ∙ ap some i
+
+  pub part-not-stray : (n : ℕ) → r ≡ Stray → o ≡ some n
+  part-not-stray n h = absurd (let z = sym h ∙ counted-is in let y : _≡_ {A = ℕ} 0 1 = cc in omega arith)

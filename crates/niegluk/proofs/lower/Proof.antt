@@ -3,7 +3,7 @@
 use borrow.Author.Needs.{needs}
 use Rattle.niegluk.proofs.lower.Statement.{statement}
 use Rattle.niegluk.proofs.lower.Tie as tie
-use Rattle.niegluk.specs.Lowers.{lower-refused, lower-no-room, lower-given, lower-room, lower-done}
+use Rattle.delivery.specs.Lowers.{lower-refused, lower-no-room, lower-given, lower-room, lower-done}
 
 ruleset steps = (lower-refused, lower-no-room, lower-given, lower-room, lower-done, needs)
 

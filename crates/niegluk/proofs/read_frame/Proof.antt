@@ -4,9 +4,9 @@ use native.Mathlib.Omega.{arith}
 use borrow.Author.Needs.{needs}
 use Rattle.niegluk.proofs.read_frame.Statement.{statement}
 use Rattle.niegluk.proofs.read_frame.Tie as tie
-use Rattle.niegluk.specs.Lowers.{lower-given}
-use Rattle.niegluk.specs.Frames.{frame-wide}
-use Rattle.niegluk.specs.Unframes.{unframe-refused, unframe-lowers, unframe-bad-frame, unframe-fits, unframe-no-room, unframe-inside, unframe-ready, unframe-done}
+use Rattle.delivery.specs.Lowers.{lower-given}
+use Rattle.delivery.specs.Frames.{frame-wide}
+use Rattle.delivery.specs.Unframes.{unframe-refused, unframe-lowers, unframe-bad-frame, unframe-fits, unframe-no-room, unframe-inside, unframe-ready, unframe-done}
 
 given : tie.Need-accept-requires
 given c κs =

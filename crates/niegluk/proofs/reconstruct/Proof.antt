@@ -5,7 +5,7 @@ use native.Mathlib.Omega.{arith}
 use borrow.Author.Needs.{needs}
 use Rattle.niegluk.proofs.reconstruct.Statement.{statement}
 use Rattle.niegluk.proofs.reconstruct.Tie as tie
-use Rattle.niegluk.specs.Reconstructs.{rebuild-bad-type, rebuild-given, rebuild-bad-shape, rebuild-short, rebuild-none, rebuild-fits, rebuild-no-room, rebuild-ready, rebuild-done}
+use Rattle.delivery.specs.Reconstructs.{rebuild-bad-type, rebuild-given, rebuild-bad-shape, rebuild-short, rebuild-none, rebuild-fits, rebuild-no-room, rebuild-ready, rebuild-done}
 
 given : tie.Need-value-records-requires
 given c κs =

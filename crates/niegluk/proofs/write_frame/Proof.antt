@@ -4,8 +4,8 @@ use native.Mathlib.Omega.{arith}
 use borrow.Author.Needs.{needs}
 use Rattle.niegluk.proofs.write_frame.Statement.{statement}
 use Rattle.niegluk.proofs.write_frame.Tie as tie
-use Rattle.niegluk.specs.Lowers.{lower-given}
-use Rattle.niegluk.specs.Frames.{frame-refused, frame-bad-value, frame-wide, width-fits, frame-no-room, frame-ready, frame-done}
+use Rattle.delivery.specs.Lowers.{lower-given}
+use Rattle.delivery.specs.Frames.{frame-refused, frame-bad-value, frame-wide, width-fits, frame-no-room, frame-ready, frame-done}
 
 fits : tie.Need-add-bytes
 fits c = width-fits (c .before .before .before .before .before .before .before .before .before .tabulate .ensures) (c .before .before .before .before .enum-told .given .1) (search needs)

@@ -4,8 +4,8 @@ use native.Mathlib.Omega.{arith}
 use borrow.Author.Needs.{needs}
 use Rattle.niegluk.proofs.write_shape.Statement.{statement}
 use Rattle.niegluk.proofs.write_shape.Tie as tie
-use Rattle.niegluk.specs.Lowers.{lower-given}
-use Rattle.niegluk.specs.Shapes.{shape-refused, shape-bad-value, shape-no-room, shape-ready, shape-done}
+use Rattle.delivery.specs.Lowers.{lower-given}
+use Rattle.delivery.specs.Shapes.{shape-refused, shape-bad-value, shape-no-room, shape-ready, shape-done}
 
 ruleset steps = (lower-given, shape-refused, shape-bad-value, shape-no-room, shape-ready, shape-done, needs)
 

@@ -2,7 +2,7 @@
 use native.Mathlib.Omega.{arith}
 use borrow.Author.Needs.{needs}
 use Rattle.reply.specs.declared.Refusal.the-variants.{NoRoom}
-use Rattle.niegluk.specs.Lowers.{lower-given}
+use Rattle.delivery.specs.Lowers.{lower-given}
 use Rattle.report.specs.Laws.{refusal-written, long-type, long-value, bad-type, bad-value, accepted, text-short, text-counts}
 use Rattle.report.proofs.report.Statement.{statement}
 use Rattle.report.proofs.report.Tie as tie

@@ -70,11 +70,11 @@ row-next k d s val n p v y h l = row-ends k d s val n p v y h .inside l
 pub row-behind : (k : Parts) (d : ℕ) (s val : List ℕ) (n p v : ℕ) (y : List SValue × ℕ) → row k d s val n p v ≡ some y → v ≤ y .1
 row-behind k d s val n p v y h = row-ends k d s val n p v y h .behind
 
--- the value of an accepted file is told from its first record, and ends with the file
-pub whole-told : (s E val : List ℕ) (x : Value (tree 32 s 0)) → Given 32 false s E 0 → value-of (tree 32 s 0) val ≡ done x → standing 32 s val 0 0 ≡ some (inject (tree 32 s 0) x, length val / 36)
+-- the value of a file that is accepted for the type at a record is told from the file's first record, and ends with the file
+pub whole-told : (s E val : List ℕ) {d p : ℕ} (x : Value (tree d s p)) → Given d false s E p → value-of (tree d s p) val ≡ done x → standing d s val p 0 ≡ some (inject (tree d s p) x, length val / 36)
 unfolding told value-of
-whole-told s E val x g h =
-    let t = tree 32 s 0 in
+whole-told s E val {d} {p} x g h =
+    let t = tree d s p in
     let q = refuse-step value-length (eqb (length val) 0 || not (eqb (length val % 36) 0)) (or-refuse not-one-value (parse t (rows val)) >>= all-read not-one-value) x h .1 in
     let e : parse t (rows val) ≡ some (x, []) = whole-read not-one-value (parse t (rows val)) x q in
     let n : length (encode t x) ≡ length (rows val) = ap length (sym (parse-sound t (rows val) (x, []) e .back ∙ append-nil (encode t x))) in

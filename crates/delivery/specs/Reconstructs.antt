@@ -1,0 +1,137 @@
+-- What `reconstruct` knows at each of its answers: rows 1 to 5, rows 8 and 9, row 10 with the value file's length.
+use mathlib.Core.Path.{_≡_, refl, sym, ap, subst, _∙_}
+use mathlib.Core.Bool.{false}
+use mathlib.Core.List.{List}
+use mathlib.Core.Option.{Option, none, some, Option·some-injective}
+use Prim.Native.Nat.{ℕ, _*_, _<_, _≤_}
+use native.Mathlib.Omega.{arith}
+use mir.Syntax.{w64}
+use mir.Val.{Fits}
+use lib.ListN.{length}
+use Rattle.model.specs.Numbers.{most-shape-records}
+use Rattle.model.specs.Outcome.{done, refused}
+use Rattle.model.specs.Structural.{SValue}
+use Rattle.model.specs.Values.{Value}
+use Rattle.model.specs.TypeFiles.{type-of}
+use Rattle.model.specs.ShapeFiles.{shape-of}
+use Rattle.model.specs.Reconstruct as model
+use Rattle.model.specs.ValueFiles.{encode, value-file}
+use Rattle.model.specs.Operations.{reconstructed}
+use Rattle.model.specs.Laws.ShapeFiles.{shape-written-read}
+use Rattle.reply.specs.declared.Refusal.{Refusal}
+use Rattle.reply.specs.declared.Refusal.the-variants.{NotReconstructed, NoRoom}
+use Rattle.reply.specs.declared.Reply.the-variants as reply
+use Rattle.types.specs.declared.TypeAnswer.{TypeAnswer}
+use Rattle.types.specs.declared.TypeAnswer.the-variants.{Ok, Refused}
+use Rattle.types.specs.Table.{EndsIf, Checked}
+use Rattle.types.specs.Trees.{tree, typeOf}
+use Rattle.types.specs.Steps.{Given}
+use Rattle.types.specs.Accepted.{accepted}
+use Rattle.types.specs.Model.{type-of-is, accepted-tree}
+use Rattle.rebuild.specs.declared.Records.{Records}
+use Rattle.rebuild.specs.declared.Records.the-variants as records
+use Rattle.rebuild.specs.declared.ShapeAnswer.{ShapeAnswer}
+use Rattle.rebuild.specs.declared.ShapeAnswer.the-variants as shapes
+use Rattle.rebuild.specs.ShapeRows.{ShapeTold}
+use Rattle.rebuild.specs.Reads.{value-records}
+use Rattle.rebuild.specs.Laws.Model.{known, value-records-reconstruct, value-file-length}
+use Rattle.rebuild.specs.Laws.Few.{few-records}
+use Rattle.restore.specs.Forms.{standing, Ready, Whole}
+use Rattle.restore.specs.Laws.Whole.{whole-given}
+use Rattle.record.specs.Marks.{written}
+use Rattle.delivery.specs.Delivering.{Delivers, deliver-refusal, deliver-no-room, deliver-result}
+
+-- numbers that tell answers apart
+abbrev count-in : Records → ℕ
+count-in (records.Of n) = n
+count-in records.Not = 0
+
+abbrev some-in : Records → ℕ
+some-in (records.Of n) = 1
+some-in records.Not = 0
+
+-- what is known of a value is that there is none, or its records
+module _ (t : _) where
+  known-none : (o : Option (Value t)) → known t o ≡ records.Not → o ≡ none
+  known-none none h = refl
+  known-none (some v) h = let z = ap some-in h in absurd (omega arith)
+
+  record Known (o : Option (Value t)) (n : ℕ) : Type 0 where
+    pub value : Value t
+    pub is : o ≡ some value
+    pub count : length (encode t value) ≡ n
+
+  known-some : (o : Option (Value t)) (n : ℕ) → known t o ≡ records.Of n → Known o n
+  known-some none n h = let z = ap some-in h in absurd (omega arith)
+  known-some (some v) n h = record { value = v; is = refl; count = ap count-in h }
+
+module _ {s E : List ℕ} {r : TypeAnswer} (c : Checked s r E) where
+  pub rebuild-bad-type : (sh : List ℕ) {O : List ℕ} {x : Refusal} → r ≡ Refused x → Delivers (reconstructed s sh) O O (reply.Refused x)
+  unfolding reconstructed
+  rebuild-bad-type sh {O} {x} e = deliver-refusal (reconstructed s sh) O x (rw (type-of-is s, ← (c .answer), e) refl)
+
+  module _ {n : ℕ} (e : r ≡ Ok n) where
+    pub rebuild-given : Given 32 false s E 0
+    rebuild-given = record { starts = accepted s n (sym (c .answer) ∙ e); ends = subst (λ (r : TypeAnswer). EndsIf r s E) e (c .table) }
+
+    says : type-of s ≡ done (tree 32 s 0)
+    says = accepted-tree s n (sym (c .answer) ∙ e)
+
+    module _ (sh : List ℕ) {a : ShapeAnswer} (told : ShapeTold sh a) where
+      pub rebuild-bad-shape : {O : List ℕ} {x : Refusal} → a ≡ shapes.Refused x → Delivers (reconstructed s sh) O O (reply.Refused x)
+      unfolding reconstructed
+      rebuild-bad-shape {O} {x} h =
+          let q : shape-of sh ≡ refused _ = subst (λ a. ShapeTold sh a) h told in
+          deliver-refusal (reconstructed s sh) O x (rw (says, q) refl)
+
+      module _ (h : a ≡ shapes.Ok) where
+        shape : (x : SValue) × (shape-of sh ≡ done x)
+        shape = subst (λ a. ShapeTold sh a) h told
+
+        pub rebuild-short : length sh ≤ most-shape-records
+        rebuild-short = shape-written-read sh (shape .0) (shape .1) .1
+
+        module _ {v : Records} (k : v ≡ value-records (typeOf s) sh) where
+          knows : v ≡ known (tree 32 s 0) (model.reconstruct (tree 32 s 0) (shape .0))
+          unfolding typeOf
+          knows = k ∙ value-records-reconstruct (tree 32 s 0) sh (shape .0) (shape .1)
+
+          -- row 10
+          pub rebuild-none : {O : List ℕ} → v ≡ records.Not → Delivers (reconstructed s sh) O O (reply.Refused NotReconstructed)
+          unfolding reconstructed
+          rebuild-none {O} q =
+              let z = known-none (tree 32 s 0) (model.reconstruct (tree 32 s 0) (shape .0)) (sym knows ∙ q) in
+              deliver-refusal (reconstructed s sh) O NotReconstructed (rw (says, shape .1, z) refl)
+
+          module _ {m : ℕ} (q : v ≡ records.Of m) where
+            value : Known (tree 32 s 0) (model.reconstruct (tree 32 s 0) (shape .0)) m
+            value = known-some (tree 32 s 0) (model.reconstruct (tree 32 s 0) (shape .0)) m (sym knows ∙ q)
+
+            abbrev file : List ℕ
+            file = value-file (tree 32 s 0) (value .value)
+
+            file-length : length file ≡ m * 36
+            file-length = value-file-length (tree 32 s 0) (value .value) ∙ ap (λ n. n * 36) (value .count)
+
+            rebuilt : reconstructed s sh ≡ done file
+            unfolding reconstructed
+            rebuilt = rw (says, shape .1, value .is) refl
+
+            stands : standing sh 32 s 0 0 ≡ some (encode (tree 32 s 0) (value .value), length sh)
+            stands = whole-given s E sh (shape .0) (value .value) rebuild-given (shape .1) (value .is)
+
+            pub rebuild-fits : Fits w64 (m * 36)
+            rebuild-fits = omega (arith, few-records s sh m rebuild-short (sym k ∙ q))
+
+            pub rebuild-no-room : {O : List ℕ} → length O < m * 36 → Delivers (reconstructed s sh) O O (reply.Refused NoRoom)
+            rebuild-no-room {O} l = deliver-no-room (reconstructed s sh) O file rebuilt (omega (arith, file-length))
+
+            pub rebuild-ready : (O : List ℕ) → m * 36 ≤ length O → Ready (standing sh 32 s 0 0) O
+            unfolding value-file written
+            rebuild-ready O l = record { recs = encode (tree 32 s 0) (value .value); end = length sh; there = stands; room = omega (arith, file-length) }
+
+            pub rebuild-done : {O O′ : List ℕ} {i : ℕ} → m * 36 ≤ length O → Whole (standing sh 32 s 0 0) O O′ i → Delivers (reconstructed s sh) O O′ (reply.Done i)
+            unfolding value-file written
+            rebuild-done {O} {O′} {i} l w =
+                let same : encode (tree 32 s 0) (value .value) ≡ w .recs = ap (λ x. x .0) (Option·some-injective _ _ (sym stands ∙ w .there)) in
+                deliver-result (reconstructed s sh) O O′ file i rebuilt (omega (arith, file-length)) (rw same (w .wrote))

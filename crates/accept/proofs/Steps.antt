@@ -3,7 +3,7 @@ use mathlib.Core.Path.{_≡_, refl, sym, ap, ap₂, subst, _∙_}
 use mathlib.Core.Bool.{Bool, true, false, not}
 use mathlib.Core.List.{List}
 use mathlib.Core.Option.{Option, some}
-use Prim.Native.Nat.{ℕ, _+_, _-_, _*_, _^_, _≤_, _<_}
+use Prim.Native.Nat.{ℕ, zero, suc, _+_, _-_, _*_, _^_, _≤_, _<_}
 use native.Mathlib.Omega.{arith}
 use mir.Syntax.{w64}
 use mir.Val.{Fits}
@@ -20,7 +20,7 @@ use Rattle.types.specs.Heads.{Fair, FairBound}
 use Rattle.structural.specs.Forms.{Stands, standing, listed}
 use Rattle.bits.specs.Bits.{bits-at, Inside}
 use Rattle.told.specs.declared.Parts.{Parts}
-use Rattle.told.specs.declared.Parts.the-variants.{Types}
+use Rattle.told.specs.declared.Parts.the-variants.{Copies, Types}
 use Rattle.told.specs.Forms.{GivenParts}
 use Rattle.told.specs.Widths.{Wide}
 use Rattle.told.specs.Laws.Trees.{given-one}
@@ -30,11 +30,11 @@ use Rattle.record.specs.declared.Form.the-variants as form
 use Rattle.record.specs.Forms.{form-of}
 use Rattle.accept.specs.declared.Seen.{Seen}
 use Rattle.accept.specs.declared.Seen.the-variants.{Of, Stray}
-use Rattle.accept.specs.Forms.{plus, seen, seen-row, seen-sum, seen-block, seen-list}
-use Rattle.accept.specs.Answers.{answer, count-of, both-of, Padded}
-use Rattle.accept.specs.Laws.Formed.{ProductSeen, SumSeen, ListSeen, PayloadSeen, Formed, formed}
+use Rattle.accept.specs.Forms.{plus, seen, row-width, seen-row, seen-sum, seen-block, seen-list}
+use Rattle.accept.specs.Answers.{answer, count-of, both-of, plain-form, Plain, Padded}
+use Rattle.accept.specs.Laws.Formed.{BitsSeen, ProductSeen, SumSeen, ListSeen, PayloadSeen, Formed, formed}
 use Rattle.accept.specs.Laws.Answers.{answer-plus, answer-small}
-use Rattle.accept.specs.Laws.Walking.{next-record, end-there, width-there, Rowing, rowing-stands, rowing-inside, padded-one, choice-clear, choice-stray, Two, list-two, Halved, list-more}
+use Rattle.accept.specs.Laws.Walking.{next-record, end-there, width-there, copies-bits, Rowing, rowing-stands, rowing-inside, padded-one, choice-clear, choice-stray, Two, list-two, Halved, list-more}
 
 -- RECORDS
 
@@ -171,6 +171,26 @@ pub two-block : (fr : List ℕ) (bit : ℕ) {d : ℕ} {s : List ℕ} {p : ℕ} {
 two-block fr bit t i = rw (t .wide) at i
 
 -- ROWS
+
+-- a plain form is one of bits
+plain-bits : (f : Form) (d : ℕ) (s E : List ℕ) (p : ℕ) → plain-form f ≡ true → Formed f d s E p → BitsSeen d s p
+plain-bits form.Nothing d s E p e i = absurd (let z : _≡_ {A = ℕ} 0 1 = cc in omega arith)
+plain-bits form.Bit d s E p e i = i
+plain-bits (form.Integer w) d s E p e i = i
+plain-bits (form.Product k n) d s E p e i = absurd (let z : _≡_ {A = ℕ} 0 1 = cc in omega arith)
+plain-bits (form.Sum n) d s E p e i = absurd (let z : _≡_ {A = ℕ} 0 1 = cc in omega arith)
+plain-bits (form.List b) d s E p e i = absurd (let z : _≡_ {A = ℕ} 0 1 = cc in omega arith)
+plain-bits (form.Payload n) d s E p e i = absurd (let z : _≡_ {A = ℕ} 0 1 = cc in omega arith)
+
+-- plain parts have a record each
+pub row-plain : (k : Parts) (d : ℕ) (s E : List ℕ) (n p : ℕ) (fr : List ℕ) (bit : ℕ) (z : Bool) (x : Seen) → Plain k s p z → z ≡ true → GivenParts k d s E n p → Inside fr bit (row-width k d s n p) → x ≡ answer (some n) → x ≡ answer (seen-row k d s n p fr bit)
+unfolding seen-row
+row-plain Types d s E n p fr bit z x a e g i h = absurd (let y = a .same e in let z : _≡_ {A = ℕ} 0 1 = cc in omega arith)
+row-plain Copies d s E n p fr bit z x a e g i h = h ∙ ap answer (sym (go n g (i .0)))
+  where
+    go : (n : ℕ) → GivenParts Copies d s E n p → bit + row-width Copies d s n p ≤ 8 * length fr → seen-row Copies d s n p fr bit ≡ some n
+    go zero g i = refl
+    go (suc n) g i = copies-bits d s p (plain-bits (form-of (headAt s p)) d s E p (a .same e) (formed (headAt s p) d s E p (given-one g (omega arith)) refl (a .fair e))) (suc n) fr bit i
 
 module _ {k : Parts} {d : ℕ} {s E : List ℕ} {n p : ℕ} {fr : List ℕ} {bit : ℕ} {all : Seen} {q here left : ℕ} (r : Rowing k d s E n p fr bit all q here left) (h : 0 < left) where
   pub row-end-there : q < length E

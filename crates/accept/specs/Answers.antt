@@ -1,5 +1,6 @@
 -- What the walk over a frame asks and answers.
 use mathlib.Core.Path.{_≡_}
+use mathlib.Core.Bool.{Bool, true, false}
 use mathlib.Core.List.{List}
 use mathlib.Core.Option.{Option, none, some}
 use Prim.Native.Nat.{ℕ, _+_, _*_, _^_, _≤_, _<_, min}
@@ -12,8 +13,14 @@ use Rattle.model.specs.Types.{Ty}
 use Rattle.model.specs.ValueFiles.{encode}
 use Rattle.model.specs.Frames.{width, unframe}
 use Rattle.model.specs.Operations.{lowering}
+use Rattle.types.specs.Record.{headAt}
+use Rattle.types.specs.Heads.{Fair}
 use Rattle.types.specs.Trees.{typeOf}
-use Rattle.told.specs.declared.Parts.the-variants.{Types}
+use Rattle.told.specs.declared.Parts.{Parts}
+use Rattle.told.specs.declared.Parts.the-variants.{Copies, Types}
+use Rattle.record.specs.declared.Form.{Form}
+use Rattle.record.specs.declared.Form.the-variants as form
+use Rattle.record.specs.Forms.{form-of}
 use Rattle.rebuild.specs.Forms.{most-records}
 use Rattle.accept.specs.declared.Seen.{Seen}
 use Rattle.accept.specs.declared.Seen.the-variants.{Of, Stray}
@@ -41,6 +48,28 @@ abbrev pub both-of : Seen → Seen → Seen
 both-of Stray b = Stray
 both-of (Of n) Stray = Stray
 both-of (Of n) (Of m) = Of (cut (n + m))
+
+-- COPIES
+
+-- a Boolean or an integer, which is bits and one record
+abbrev pub plain-form : Form → Bool
+plain-form form.Nothing = false
+plain-form form.Bit = true
+plain-form (form.Integer w) = true
+plain-form (form.Product k n) = false
+plain-form (form.Sum n) = false
+plain-form (form.List b) = false
+plain-form (form.Payload n) = false
+
+-- copies of such a one
+abbrev pub plain : Parts → Form → Bool
+plain Copies f = plain-form f
+plain Types f = false
+
+-- the parts from record p on are such copies if r is true
+pub record Plain (k : Parts) (s : List ℕ) (p : ℕ) (r : Bool) : Type 0 where
+  pub same : r ≡ true → plain k (form-of (headAt s p)) ≡ true
+  pub fair : r ≡ true → Fair (headAt s p)
 
 -- THE TABLE
 

@@ -15,7 +15,7 @@ use types::head_at;
 ghost use mathlib.Core.Path.{_≡_};
 ghost use mathlib.Core.Bool.{false};
 ghost use mathlib.Core.Option.{some};
-ghost use Prim.Native.Nat.{_≤_, _<_, _+_, _*_};
+ghost use Prim.Native.Nat.{_≤_, _+_, _*_};
 ghost use Rattle.model.specs.Frames.{width};
 ghost use Rattle.types.specs.Heads.{FairBound};
 ghost use Rattle.types.specs.Steps.{Given};
@@ -26,9 +26,8 @@ ghost use Rattle.told.specs.declared.Parts.the-variants.{Types};
 ghost use Rattle.told.specs.Forms.{GivenParts};
 ghost use Rattle.told.specs.Widths.{Wide};
 ghost use Rattle.rebuild.specs.Forms.{most-records};
-ghost use Rattle.accept.specs.declared.Seen.the-variants.{Of};
 ghost use Rattle.accept.specs.Forms.{seen, seen-row, row-width, seen-sum, seen-block, seen-list};
-ghost use Rattle.accept.specs.Answers.{count-of, both-of, answer, Padded, Lowered, Counted, accepted, outcome-of};
+ghost use Rattle.accept.specs.Answers.{count-of, both-of, answer, Plain, Padded, Lowered, Counted, accepted, outcome-of};
 
 // No value has more records than this, 33 for each of 65,536 of its shape: counting stops here.
 const MOST: usize = 2162688;
@@ -48,15 +47,14 @@ pub enum Accepted {
     Refused(Refusal),
 }
 
-// Two numbers of records, added up.
-fn add(n: usize, m: usize) -> Seen
-    requires { ⌜ (n ≤ most-records) × (m ≤ most-records) ⌝ }
-    ensures { λ r. ⌜ r ≡ both-of (Of n) (Of m) ⌝ }
+// So many records, as far as they are counted.
+fn so_many(n: usize) -> Seen
+    ensures { λ r. ⌜ r ≡ answer (some n) ⌝ }
 {
-    if MOST < n + m {
+    if MOST < n {
         return Seen::Of(MOST);
     }
-    Seen::Of(n + m)
+    Seen::Of(n)
 }
 
 // Both, added up.
@@ -68,7 +66,28 @@ fn both(a: Seen, b: Seen) -> Seen
         Seen::Stray => Seen::Stray,
         Seen::Of(n) => match b {
             Seen::Stray => Seen::Stray,
-            Seen::Of(m) => add(n, m),
+            Seen::Of(m) => so_many(n + m),
+        },
+    }
+}
+
+// Whether the parts from record `at` on are copies of a Boolean or of an integer: no bit of such a part is padding, and each has one record.
+fn is_plain(ty: &[u8], at: usize, n: usize, parts: Parts) -> bool
+    ensures { λ r. ⌜ Plain parts (now (ty .entry)) at r ⌝ }
+{
+    if n < 2 {
+        return false;
+    }
+    match parts {
+        Parts::Types => false,
+        Parts::Copies => match form_of(head_at(ty, at)) {
+            Form::Nothing => false,
+            Form::Bit => true,
+            Form::Integer(_) => true,
+            Form::Product(_, _) => false,
+            Form::Sum(_) => false,
+            Form::List(_) => false,
+            Form::Payload(_) => false,
         },
     }
 }
@@ -130,7 +149,7 @@ fn see_record(
     }
 }
 
-// Sees the n parts from record `at` on, one after the other.
+// Sees the n parts from record `at` on, one after the other; copies of a Boolean or of an integer all at once.
 fn see_row(
     ty: &[u8],
     ends: &[usize],
@@ -147,6 +166,9 @@ fn see_row(
     requires { ⌜ Inside (now frame) bit (row-width parts level (now ty) n at) ⌝ }
     ensures { λ r. ⌜ r ≡ answer (seen-row parts level (now (ty .entry)) n at (now (frame .entry)) bit) ⌝ }
 {
+    if is_plain(ty, at, n, parts) {
+        return so_many(n);
+    }
     let mut all = Seen::Of(0);
     let mut place = at;
     let mut here = bit;

@@ -84,12 +84,30 @@ fn zero_step(buf: &mut [u8], at: usize, n: usize) -> usize
     8
 }
 
-// The n bits from `at` on become zeros.
+// The whole bytes among the n bits from `at` on become zeros, where `at` is a byte's first bit; how many bits, or 0 where it is not.
+fn zero_bytes(buf: &mut [u8], at: usize, n: usize) -> usize
+    requires { ⌜ Inside (now buf) at n ⌝ }
+    ensures { λ r. ⌜ (r ≤ n) × Wrote (now (buf .entry)) at (zeros r) (now (buf .exit)) ⌝ }
+{
+    if at % 8 != 0 {
+        return 0;
+    }
+    let first = at / 8;
+    let count = n / 8;
+    let mut i = 0;
+    while i < count {
+        buf[first + i] = 0;
+        i += 1;
+    }
+    8 * count
+}
+
+// The n bits from `at` on become zeros: whole bytes first, then by steps.
 pub fn write_zeros(buf: &mut [u8], at: usize, n: usize)
     requires { ⌜ Inside (now buf) at n ⌝ }
     ensures { λ r. ⌜ Wrote (now (buf .entry)) at (zeros n) (now (buf .exit)) ⌝ }
 {
-    let mut i = 0;
+    let mut i = zero_bytes(buf, at, n);
     while i < n {
         i += zero_step(buf, at + i, n - i);
     }
@@ -112,12 +130,32 @@ fn scan_step(s: &[u8], at: usize, n: usize) -> usize
     0
 }
 
-// Are the n bits from `at` on all zero? Of no bits the answer is yes.
+// The whole bytes among n bits from `at` on are looked at up to one that is not 0, where `at` is a byte's first bit; the bits of those before it.
+fn scan_bytes(s: &[u8], at: usize, n: usize) -> usize
+    requires { ⌜ Inside (now s) at n ⌝ }
+    ensures { λ r. ⌜ (r ≤ n) × (any (bits-at (now (s .entry)) at r) ≡ false) ⌝ }
+{
+    if at % 8 != 0 {
+        return 0;
+    }
+    let first = at / 8;
+    let count = n / 8;
+    let mut i = 0;
+    while i < count {
+        if s[first + i] != 0 {
+            return 8 * i;
+        }
+        i += 1;
+    }
+    8 * count
+}
+
+// Are the n bits from `at` on all zero? Of no bits the answer is yes. Whole bytes are looked at first.
 pub fn is_zero_run(s: &[u8], at: usize, n: usize) -> bool
     requires { ⌜ Inside (now s) at n ⌝ }
     ensures { λ r. ⌜ r ≡ not (any (bits-at (now (s .entry)) at n)) ⌝ }
 {
-    let mut i = 0;
+    let mut i = scan_bytes(s, at, n);
     while i < n {
         let k = scan_step(s, at + i, n - i);
         if k == 0 {
@@ -141,12 +179,34 @@ fn copy_step(src: &[u8], from: usize, dst: &mut [u8], at: usize, n: usize) -> us
     8
 }
 
-// The n bits of src from `from` on are put at bit `at` of dst.
+// The whole bytes among n bits of src from `from` on are put at `at`, where both are a byte's first bit; how many bits, or 0 where one is not.
+fn copy_bytes(src: &[u8], from: usize, dst: &mut [u8], at: usize, n: usize) -> usize
+    requires { ⌜ Inside (now src) from n × Inside (now dst) at n ⌝ }
+    ensures { λ r. ⌜ (r ≤ n) × Wrote (now (dst .entry)) at (bits-at (now (src .entry)) from r) (now (dst .exit)) ⌝ }
+{
+    if from % 8 != 0 {
+        return 0;
+    }
+    if at % 8 != 0 {
+        return 0;
+    }
+    let start = from / 8;
+    let first = at / 8;
+    let count = n / 8;
+    let mut i = 0;
+    while i < count {
+        dst[first + i] = src[start + i];
+        i += 1;
+    }
+    8 * count
+}
+
+// The n bits of src from `from` on are put at bit `at` of dst: whole bytes first, then by steps.
 pub fn copy_bits(src: &[u8], from: usize, dst: &mut [u8], at: usize, n: usize)
     requires { ⌜ Inside (now src) from n × Inside (now dst) at n ⌝ }
     ensures { λ r. ⌜ Wrote (now (dst .entry)) at (bits-at (now (src .entry)) from n) (now (dst .exit)) ⌝ }
 {
-    let mut i = 0;
+    let mut i = copy_bytes(src, from, dst, at, n);
     while i < n {
         i += copy_step(src, from + i, dst, at + i, n - i);
     }

@@ -5,13 +5,12 @@ use mathlib.Core.List.{List}
 use Prim.Native.Nat.{ℕ, _<_, _≤_}
 use native.Mathlib.Omega.{arith}
 use lib.ListN.{length, getD}
-use Rattle.model.specs.Numbers.{never-stands, too-large, most-shape-records}
-use Rattle.model.specs.Outcome.{done, refuse, _>>_}
+use Rattle.model.specs.Numbers.{most-shape-records}
+use Rattle.model.specs.Outcome.{done}
 use Rattle.model.specs.Structural.{type-records}
-use Rattle.model.specs.Lowering.{lower, has-never, over-large}
+use Rattle.model.specs.Lowering.{lower}
 use Rattle.model.specs.Operations.{lowering, lowered}
-use Rattle.model.specs.Laws.Outcome.{refuse-step}
-use Rattle.model.specs.Laws.Lowering.{small}
+use Rattle.model.specs.Laws.Lowering.{small, lowers-not-large}
 use Rattle.model.specs.Laws.Sizes.{length-type-records}
 use Rattle.reply.specs.declared.Refusal.{Refusal}
 use Rattle.reply.specs.declared.Refusal.the-variants.{NoRoom}
@@ -22,7 +21,6 @@ use Rattle.types.specs.Trees.{tree}
 use Rattle.types.specs.Lows.{low}
 use Rattle.types.specs.Steps.{Given}
 use Rattle.types.specs.Accepted.{accepted}
-use Rattle.types.specs.Model.{accepted-tree}
 use Rattle.table.specs.Tabled.{Table, TableIf, Tabled}
 use Rattle.structural.specs.Forms.{Room}
 use Rattle.structural.specs.Writing.{Wrote}
@@ -43,18 +41,9 @@ module _ {s E S W : List ℕ} {r : TypeAnswer} (p : Tabled s r E S W) where
     pub lowers : lowering s ≡ done (tree 32 s 0)
     lowers = rw (p .answer, e) refl
 
-    -- row 7 does not hold
-    not-large : over-large (tree 32 s 0) ≡ false
-    unfolding lowering
-    not-large =
-        let t = tree 32 s 0 in
-        let h : (refuse never-stands (has-never t) >> (refuse too-large (over-large t) >> done t)) ≡ done t = rw (accepted-tree s n (table .accepted)) at lowers in
-        let (_, g) = refuse-step never-stands (has-never t) (refuse too-large (over-large t) >> done t) t h in
-        refuse-step too-large (over-large t) (done t) t g .0
-
     -- the lowered type has no more records than row 7 allows
     pub lowers-small : length (type-records (lower (tree 32 s 0))) ≤ most-shape-records
-    lowers-small = small (tree 32 s 0) not-large
+    lowers-small = small (tree 32 s 0) (lowers-not-large s (tree 32 s 0) lowers)
 
     -- the file's own size is not cut: it is the length of its lowered type
     lowered-size : getD S 0 0 ≡ length (type-records (low 32 false s 0))

@@ -1,5 +1,6 @@
 -- The steps of the writers, in the form in which the code's needs ask them.
 use mathlib.Core.Path.{_≡_, refl, sym, ap, subst, _∙_}
+use mathlib.Core.Bool.{true}
 use mathlib.Core.List.{List, [], _∷_}
 use Prim.Native.Nat.{ℕ, _+_, _-_, _^_, _≤_, _<_}
 use native.Mathlib.Omega.{arith}
@@ -20,9 +21,9 @@ use Rattle.structural.specs.declared.Parts.{Parts}
 use Rattle.structural.specs.declared.Parts.the-variants.{Bits, Copies, Types, Choices}
 use Rattle.structural.specs.declared.Written.{Written}
 use Rattle.structural.specs.Writing.{Wrote}
-use Rattle.structural.specs.Forms.{Room, form-of, standing, Stands, part, after, skip, balanced, GivenPart, GivenParts, Placed, block-of}
+use Rattle.structural.specs.Forms.{Room, form-of, all-same, standing, Stands, part, after, skip, balanced, GivenPart, GivenParts, Placed, block-of}
 use Rattle.structural.specs.Laws.Writing.{rest, back, wrote-none, wrote-set, wrote-length, wrote-room, wrote-lent}
-use Rattle.structural.specs.Laws.Trees.{skip-add, balanced-none, balanced-one, given-one, given-left, given-right}
+use Rattle.structural.specs.Laws.Trees.{skip-add, skip-same, balanced-none, balanced-one, given-one, given-left, given-right}
 use Rattle.structural.specs.Laws.Forms.{stands-end, TreeOf, ListOf, Formed, formed}
 
 -- RECORDS
@@ -180,3 +181,6 @@ tree-placed {n} {few} h k d s p v u w =
     let l = h .less in
     let m : few + (n - few) ≡ n = omega arith in
     record { next = u .next ∙ ap (skip k d s (n - few)) (v .next) ∙ sym (skip-add k d s few (n - few) p) ∙ ap (λ i. skip k d s i p) m; wrote = w }
+
+pub twice-placed : (k : Parts) (d : ℕ) (s : List ℕ) (n p : ℕ) {out o : List ℕ} {r : ℕ} → all-same k ≡ true → Wrote (type-records (balanced k d s n p)) out o r → Placed (balanced k d s n p) (skip k d s n p) out o (record { next = p; len = r })
+twice-placed k d s n p h w = record { next = sym (skip-same k d s n p h); wrote = w }

@@ -84,6 +84,13 @@ join Copies = _⊗_
 join Types = _⊗_
 join Choices = _⊕_
 
+-- all parts are told by one record, and are the same
+abbrev pub all-same : Parts → Bool
+all-same Bits = true
+all-same Copies = true
+all-same Types = false
+all-same Choices = false
+
 -- the part at a record
 unfoldable pub part : Parts → ℕ → List ℕ → ℕ → SType
 part Bits d s p = 𝟙 ⊕ 𝟙

@@ -1,5 +1,5 @@
 // The lowered type of a type file, after types/structural.rs: one byte a record, parent first.
-// The right side of a tree is written into the rest of the buffer after its left, so that each byte is written once.
+// The right side of a tree is written into the rest of the buffer after its left, so that each byte is written once; a right side that is the same as the left is copied from it.
 use array::btree_split_index;
 use num::Bound;
 use num::NonZeroPow2Usize;
@@ -7,13 +7,15 @@ use types::Head;
 use types::head_at;
 ghost use mathlib.Core.Path.{_≡_};
 ghost use mathlib.Core.Bool.{false};
-ghost use Prim.Native.Nat.{_≤_};
+ghost use mathlib.Core.List.{_++_};
+ghost use Prim.Native.Nat.{_+_, _≤_};
+ghost use lib.ListN.{length, take};
 ghost use Rattle.model.specs.Structural.{𝟙, _⊕_, type-records};
 ghost use Rattle.types.specs.Heads.{FairBound};
 ghost use Rattle.types.specs.Steps.{Given};
 ghost use Rattle.types.specs.Lows.{low};
 ghost use Rattle.structural.specs.Writing.{Wrote};
-ghost use Rattle.structural.specs.Forms.{most-parts, Room, form-of, joint-of, standing, Stands, part, after, skip, balanced, GivenPart, GivenParts, Placed, block-of, listed};
+ghost use Rattle.structural.specs.Forms.{most-parts, Room, form-of, joint-of, all-same, standing, Stands, part, after, skip, balanced, GivenPart, GivenParts, Placed, block-of, listed};
 
 // The records of a lowered type.
 const UNIT: u8 = 0;
@@ -76,6 +78,31 @@ fn joint(parts: Parts) -> u8
         Parts::Types => PRODUCT,
         Parts::Choices => SUM,
     }
+}
+
+// Are the parts all the same?
+fn are_same(parts: Parts) -> bool
+    ensures { λ r. ⌜ r ≡ all-same parts ⌝ }
+{
+    match parts {
+        Parts::Bits => true,
+        Parts::Copies => true,
+        Parts::Types => false,
+        Parts::Choices => false,
+    }
+}
+
+// Writes the first `len` bytes once more behind them, and answers the length of both.
+fn repeat(out: &mut [u8], len: usize) -> usize
+    requires { ⌜ len + len ≤ length (now out) ⌝ }
+    ensures { λ r. ⌜ Wrote (take len (now (out .entry)) ++ take len (now (out .entry))) (now (out .entry)) (now (out .exit)) r ⌝ }
+{
+    let mut i = 0;
+    while i < len {
+        out[len + i] = out[i];
+        i += 1;
+    }
+    len + len
 }
 
 // Writes a unit, and answers its one byte.
@@ -171,6 +198,12 @@ fn write_tree(
     let few = btree_split_index(n);
     let others = n - few;
     let left = write_tree(ty, ends, at, level, few, parts, &mut out[1..]);
+    if few == others && are_same(parts) {
+        return Written {
+            next: at,
+            len: repeat(&mut out[1..], left.len) + 1,
+        };
+    }
     let k = left.len + 1;
     let right = write_tree(ty, ends, left.next, level, others, parts, &mut out[k..]);
     Written {

@@ -9,11 +9,12 @@ use native.Mathlib.Numerals.{add-one}
 use native.Mathlib.Omega.{arith}
 use lib.ListN.{length, getD, drop, length-take, length-drop}
 use lib.Seq.{drop-cons, getD-take, getD-drop}
-use lib.Dec.{ltb}
-use borrow.Author.Tests.{ltb-true, ltb-false, lt-ltb, le-ltb}
+use lib.Dec.{ltb, eqb}
+use borrow.Author.Tests.{ltb-true, ltb-false, lt-ltb, le-ltb, eqb-true, eqb-false}
 use Rattle.model.specs.Bytes.{bits-of, number}
+use Rattle.model.specs.Options.{pick}
 use Rattle.model.specs.Laws.Bytes.{of-bits-bound, length-bits-of, number-cons}
-use Rattle.value.specs.Record.{integer-bytes, below}
+use Rattle.value.specs.Record.{integer-bytes, below, clear}
 
 pub length-integer : (s : List ℕ) (v : ℕ) → v < length s / 36 → length (integer-bytes s v) ≡ 32
 unfolding integer-bytes
@@ -32,7 +33,7 @@ number-from : (l : List ℕ) (i : ℕ) → i < length l → getD l i 0 < 256 →
 number-from l i h b = rw (drop-cons l i 0 h, ← add-one i) (number-cons (getD l i 0) (drop (i + 1) l) b)
 
 -- how many bytes are zero for sure
-abbrev pub lead-of : ℕ → ℕ
+abbrev lead-of : ℕ → ℕ
 lead-of w = 32 - (w + 7) / 8
 
 times-zero : (b P n : ℕ) → b ≡ 0 → b * P + n ≡ n
@@ -57,54 +58,64 @@ digit x P n Q h = go (ltb x Q) refl
         let m : Q * P ≤ x * P = mul-le-mul-right {m = Q} {n = x} P l in
         p ∙ sym (le-ltb (x * P + n) (Q * P) (omega (arith, m)))
 
--- the first i bytes are zero
-pub record Leading (s : List ℕ) (v w i : ℕ) : Type 0 where
-  pub rest : below s v w ≡ ltb (number (drop i (integer-bytes s v))) (2 ^ w)
-  pub so-far : i ≤ lead-of w
+-- what is known of the integer where its first i bytes are zero, and where they are not
+abbrev Leading : List ℕ → ℕ → ℕ → ℕ → Bool → Type 0
+Leading s v w i true = below s v w ≡ ltb (number (drop i (integer-bytes s v))) (2 ^ w)
+Leading s v w i false = below s v w ≡ false
 
-pub leading-start : (s : List ℕ) (v w : ℕ) → Leading s v w 0
-unfolding below
-leading-start s v w = record { rest = refl; so-far = omega arith }
+module _ (s : List ℕ) (v w i : ℕ) (r : Leading s v w i true) (h : v < length s / 36) (o : i < lead-of w) (c : getD s (v * 36 + 4 + i) 0 < 256) where
+  from-here : number (drop i (integer-bytes s v)) ≡ getD s (v * 36 + 4 + i) 0 * 2 ^ (8 * length (drop (i + 1) (integer-bytes s v))) + number (drop (i + 1) (integer-bytes s v))
+  from-here = let n = length-integer s v h in let d = integer-byte s v i (omega arith) in rw d at (number-from (integer-bytes s v) i (omega arith) (omega arith))
 
-module _ (s : List ℕ) (v w i b x : ℕ) (r : Leading s v w i) (h : v < length s / 36) (k : w ≤ 256) (o : i < lead-of w) (q : b ≡ v * 36 + 4) (e : x ≡ getD s (b + i) 0) (c : x < 256) where
-  byte-is : getD (integer-bytes s v) i 0 ≡ x
-  byte-is = integer-byte s v i (omega arith) ∙ ap (λ n. getD s (n + i) 0) (sym q) ∙ sym e
+  leading-next : getD s (v * 36 + 4 + i) 0 ≡ 0 → Leading s v w (i + 1) true
+  leading-next z = r ∙ ap (λ n. ltb n (2 ^ w)) (from-here ∙ times-zero (getD s (v * 36 + 4 + i) 0) (2 ^ (8 * length (drop (i + 1) (integer-bytes s v)))) (number (drop (i + 1) (integer-bytes s v))) z)
 
-  from-here : number (drop i (integer-bytes s v)) ≡ x * 2 ^ (8 * length (drop (i + 1) (integer-bytes s v))) + number (drop (i + 1) (integer-bytes s v))
-  from-here = let n = length-integer s v h in let d = byte-is in rw d at (number-from (integer-bytes s v) i (omega arith) (omega arith))
-
-  pub leading-next : x ≡ 0 → Leading s v w (i + 1)
-  leading-next z = record { rest = r .rest ∙ ap (λ n. ltb n (2 ^ w)) (from-here ∙ times-zero x (2 ^ (8 * length (drop (i + 1) (integer-bytes s v)))) (number (drop (i + 1) (integer-bytes s v))) z); so-far = omega arith }
-
-  pub leading-stop : (x ≡ 0 → ⊥) → false ≡ below s v w
+  leading-stop : (getD s (v * 36 + 4 + i) 0 ≡ 0 → ⊥) → below s v w ≡ false
   leading-stop z =
       let n = length-integer s v h in
       let l : length (drop (i + 1) (integer-bytes s v)) ≡ 32 - (i + 1) = simp length-drop (rw n) in
       let m : 2 ^ w ≤ 2 ^ (8 * length (drop (i + 1) (integer-bytes s v))) = pow-le-pow-right {n = 2} (omega arith) {i = w} {j = 8 * length (drop (i + 1) (integer-bytes s v))} (omega arith) in
-      sym (r .rest ∙ le-ltb (number (drop i (integer-bytes s v))) (2 ^ w) (rw from-here (times-some x (2 ^ (8 * length (drop (i + 1) (integer-bytes s v)))) (number (drop (i + 1) (integer-bytes s v))) (2 ^ w) z m)))
+      r ∙ le-ltb (number (drop i (integer-bytes s v))) (2 ^ w) (rw from-here (times-some (getD s (v * 36 + 4 + i) 0) (2 ^ (8 * length (drop (i + 1) (integer-bytes s v)))) (number (drop (i + 1) (integer-bytes s v))) (2 ^ w) z m))
 
-module _ (s : List ℕ) (v w i : ℕ) (r : Leading s v w i) (h : v < length s / 36) (k : w ≤ 256) (o : lead-of w ≤ i) where
-  at-lead : i ≡ lead-of w
-  at-lead = let m = r .so-far in omega arith
+module _ (s : List ℕ) (v w : ℕ) (h : v < length s / 36) (k : w ≤ 256) (c : (i : ℕ) → getD s i 0 < 256) where
+  leading : (i : ℕ) → i ≤ lead-of w → Leading s v w i (clear s (v * 36 + 4) i)
+  unfolding below clear
+  leading zero o = refl
+  leading (suc i) o = go (eqb (getD s (v * 36 + 4 + i) 0) 0) refl (clear s (v * 36 + 4) i) (leading i (omega arith))
+    where
+      go : (p : Bool) → eqb (getD s (v * 36 + 4 + i) 0) 0 ≡ p → (q : Bool) → Leading s v w i q → Leading s v w (suc i) (pick p q false)
+      go true e true r = rw add-one at (leading-next s v w i r h (omega arith) (c _) (eqb-true _ 0 e))
+      go true e false r = r
+      go false e true r = leading-stop s v w i r h (omega arith) (c _) (eqb-false _ 0 e)
+      go false e false r = r
 
-  pub leading-all : w % 8 ≡ 0 → true ≡ below s v w
-  leading-all z =
+  at-lead : (x : Bool) → x ≡ clear s (v * 36 + 4) (lead-of w) → Leading s v w (lead-of w) x
+  at-lead x e = rw e (leading (lead-of w) (omega arith))
+
+  -- a byte before the last w bits is not zero
+  pub lead-stops : (x : Bool) → x ≡ clear s (v * 36 + 4) (lead-of w) → x ≡ false → false ≡ below s v w
+  lead-stops x e f = sym (at-lead false (sym f ∙ e))
+
+  -- the last w bits are whole bytes
+  pub lead-decides : (x : Bool) → x ≡ clear s (v * 36 + 4) (lead-of w) → w % 8 ≡ 0 → x ≡ below s v w
+  lead-decides true e z =
       let n = length-integer s v h in
-      let j = at-lead in
-      let l : length (drop i (integer-bytes s v)) ≡ 32 - i = simp length-drop (rw n) in
-      let f : 8 * length (drop i (integer-bytes s v)) ≡ w = omega arith in
-      sym (r .rest ∙ lt-ltb (number (drop i (integer-bytes s v))) (2 ^ w) (rw f at (number-bound (drop i (integer-bytes s v)))))
+      let l : length (drop (lead-of w) (integer-bytes s v)) ≡ 32 - lead-of w = simp length-drop (rw n) in
+      let f : 8 * length (drop (lead-of w) (integer-bytes s v)) ≡ w = omega arith in
+      sym (at-lead true e ∙ lt-ltb (number (drop (lead-of w) (integer-bytes s v))) (2 ^ w) (rw f at (number-bound (drop (lead-of w) (integer-bytes s v)))))
+  lead-decides false e z = sym (at-lead false e)
 
-  module _ (b x p : ℕ) (z : w % 8 ≡ 0 → ⊥) (q : b ≡ v * 36 + 4) (e : x ≡ getD s (b + lead-of w) 0) (c : x < 256) (y : p ≡ 2 ^ (w % 8)) where
-    pub leading-last : ltb x p ≡ below s v w
-    leading-last =
+  -- they begin within a byte
+  module _ (x : Bool) (g : x ≡ clear s (v * 36 + 4) (lead-of w)) (y : x ≡ true) (z : w % 8 ≡ 0 → ⊥) (t p : ℕ) (e : t ≡ getD s (v * 36 + 4 + lead-of w) 0) (q : p ≡ 2 ^ (w % 8)) where
+    pub last-decides : ltb t p ≡ below s v w
+    last-decides =
         let n = length-integer s v h in
-        let j = at-lead in
-        let l : length (drop (i + 1) (integer-bytes s v)) ≡ w / 8 = simp length-drop (rw n (omega arith)) in
-        let d : getD (integer-bytes s v) i 0 ≡ x = integer-byte s v i (omega arith) ∙ ap (λ m. getD s (v * 36 + 4 + m) 0) j ∙ ap (λ m. getD s (m + lead-of w) 0) (sym q) ∙ sym e in
-        let f : number (drop i (integer-bytes s v)) ≡ x * 2 ^ (8 * length (drop (i + 1) (integer-bytes s v))) + number (drop (i + 1) (integer-bytes s v)) = rw d at (number-from (integer-bytes s v) i (omega arith) (omega arith)) in
-        let g : 2 ^ w ≡ p * 2 ^ (8 * length (drop (i + 1) (integer-bytes s v))) = split _ l in
-        digit x (2 ^ (8 * length (drop (i + 1) (integer-bytes s v)))) (number (drop (i + 1) (integer-bytes s v))) p (number-bound (drop (i + 1) (integer-bytes s v))) ∙ sym (r .rest ∙ rw (f, g))
+        let l : length (drop (lead-of w + 1) (integer-bytes s v)) ≡ w / 8 = simp length-drop (rw n (omega arith)) in
+        let d : getD (integer-bytes s v) (lead-of w) 0 ≡ t = integer-byte s v (lead-of w) (omega arith) ∙ sym e in
+        let b : t < 256 = rw e (c _) in
+        let f : number (drop (lead-of w) (integer-bytes s v)) ≡ t * 2 ^ (8 * length (drop (lead-of w + 1) (integer-bytes s v))) + number (drop (lead-of w + 1) (integer-bytes s v)) = rw d at (number-from (integer-bytes s v) (lead-of w) (omega arith) (omega arith)) in
+        let o : 2 ^ w ≡ p * 2 ^ (8 * length (drop (lead-of w + 1) (integer-bytes s v))) = split _ l in
+        digit t (2 ^ (8 * length (drop (lead-of w + 1) (integer-bytes s v)))) (number (drop (lead-of w + 1) (integer-bytes s v))) p (number-bound (drop (lead-of w + 1) (integer-bytes s v))) ∙ sym (at-lead true (sym y ∙ g) ∙ rw (f, o))
       where
         split : (m : ℕ) → m ≡ w / 8 → 2 ^ w ≡ p * 2 ^ (8 * m)
-        split m o = let a : w ≡ w % 8 + 8 * m = omega arith in ap (λ n. 2 ^ n) a ∙ pow-add 2 (w % 8) (8 * m) ∙ ap (λ n. n * 2 ^ (8 * m)) (sym y)
+        split m o = let a : w ≡ w % 8 + 8 * m = omega arith in ap (λ n. 2 ^ n) a ∙ pow-add 2 (w % 8) (8 * m) ∙ ap (λ n. n * 2 ^ (8 * m)) (sym q)

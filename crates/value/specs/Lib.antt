@@ -4,6 +4,7 @@ pub mod Opening
 pub mod Check
 pub mod Steps
 pub mod Arms
+pub mod Clear
 pub mod Below
 pub mod Follow
 pub mod Said

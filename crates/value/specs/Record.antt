@@ -1,7 +1,7 @@
 -- One record of a value file: 36 bytes, kind, choice, a number of two bytes, an integer of 32 bytes.
-use Prim.Native.Nat.{ℕ, _+_, _*_, _/_, _^_}
+use Prim.Native.Nat.{ℕ, zero, suc, _+_, _*_, _/_, _^_}
 use mathlib.Core.List.{List}
-use mathlib.Core.Bool.{Bool, false}
+use mathlib.Core.Bool.{Bool, true, false}
 use lib.ListN.{length, getD, take, drop}
 use lib.Dec.{ltb, eqb}
 use Rattle.model.specs.Bytes.{number}
@@ -22,6 +22,11 @@ number-at s v = getD s (v * 36 + 2) 0 * 256 + getD s (v * 36 + 3) 0
 -- the integer's bytes
 unfoldable pub integer-bytes : List ℕ → ℕ → List ℕ
 integer-bytes s v = take 32 (drop (v * 36 + 4) s)
+
+-- the n bytes from b on are zero
+unfoldable pub clear : List ℕ → ℕ → ℕ → Bool
+clear s b zero = true
+clear s b (suc n) = pick (eqb (getD s (b + n) 0) 0) (clear s b n) false
 
 -- the integer is below 2 ^ w
 unfoldable pub below : List ℕ → ℕ → ℕ → Bool

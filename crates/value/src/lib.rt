@@ -10,7 +10,7 @@ use types::head_at;
 use types::rec_at;
 ghost use mathlib.Core.Path.{_≡_};
 ghost use mathlib.Core.Bool.{true, false};
-ghost use Prim.Native.Nat.{_≤_, _<_, _/_, _^_};
+ghost use Prim.Native.Nat.{_≤_, _<_, _+_, _*_, _/_, _^_};
 ghost use lib.ListN.{length, getD};
 ghost use Rattle.model.specs.Balanced.{btree};
 ghost use Rattle.types.specs.Heads.{Fair, FairWidth, FairBound};
@@ -18,7 +18,7 @@ ghost use Rattle.types.specs.Steps.{Given, GivenRow};
 ghost use Rattle.types.specs.Trees.{tree, treev, kids};
 ghost use Rattle.types.specs.Walks.{walk};
 ghost use Rattle.table.specs.Facts.{cut};
-ghost use Rattle.value.specs.Record.{starts, number-at, below, choice-at, count-at};
+ghost use Rattle.value.specs.Record.{starts, number-at, below, clear, choice-at, count-at};
 ghost use Rattle.value.specs.Lengths.{add, joints, blocks, tags};
 ghost use Rattle.value.specs.Opening.{by-choice, counted, uint-opens, list-opens, enum-opens, opens-of, hop};
 ghost use Rattle.value.specs.Check.{check, parts, run, file-answer};
@@ -171,25 +171,57 @@ fn starts_with(val: &[u8], v: usize, kind: u8, choice: u8) -> bool
     }
 }
 
+// Are the n bytes from place b on zero?
+fn is_clear(val: &[u8], b: usize, n: usize) -> bool
+    requires { ⌜ b + n ≤ length (now val) ⌝ }
+    ensures { λ r. ⌜ r ≡ clear (now (val .entry)) b n ⌝ }
+{
+    let mut any: u8 = 0;
+    let mut i: usize = 0;
+    while i < n {
+        any = any | val[b + i];
+        i += 1;
+    }
+    any == 0
+}
+
+// Are the first n bytes of the integer of record v zero? Runs of a fixed length are the quickest to look at, and two that overlap are as good as one.
+fn lead_is_clear(val: &[u8], v: usize, n: usize) -> bool
+    requires { ⌜ (v < length (now val) / 36) × (n ≤ 32) ⌝ }
+    ensures { λ r. ⌜ r ≡ clear (now (val .entry)) (v * 36 + 4) n ⌝ }
+{
+    let b = v * 36 + 4;
+    if n < 16 {
+        return is_clear(val, b, n);
+    }
+    if is_clear(val, b, 16) {
+        return is_clear(val, b + (n - 16), 16);
+    }
+    false
+}
+
 // Is the integer of record v below 2 ^ w?
 fn is_below(val: &[u8], v: usize, w: usize) -> bool
     requires { ⌜ (v < length (now val) / 36) × (w ≤ 256) ⌝ }
     ensures { λ r. ⌜ r ≡ below (now (val .entry)) v w ⌝ }
 {
-    let b = v * 36 + 4;
     let lead = 32 - (w + 7) / 8;
-    let mut i: usize = 0;
-    while i < lead {
-        if wide(val[b + i]) != 0 {
-            return false;
+    if lead_is_clear(val, v, lead) {
+        let r = w % 8;
+        if r == 0 {
+            return true;
         }
-        i += 1;
+        return wide(val[v * 36 + 4 + lead]) < power_of_two(r);
     }
-    let r = w % 8;
-    if r == 0 {
-        return true;
-    }
-    wide(val[b + lead]) < power_of_two(r)
+    false
+}
+
+// Is the integer of record v zero?
+fn is_zero(val: &[u8], v: usize) -> bool
+    requires { ⌜ v < length (now val) / 36 ⌝ }
+    ensures { λ r. ⌜ r ≡ below (now (val .entry)) v 0 ⌝ }
+{
+    is_clear(val, v * 36 + 4, 32)
 }
 
 // The choice of record v, if it is of this kind and all else in it is zero.
@@ -198,7 +230,7 @@ fn choice_of(val: &[u8], v: usize, kind: u8) -> Choice
 {
     if starts_with(val, v, kind, 0) {
         if number_of(val, v) == 0 {
-            if is_below(val, v, 0) {
+            if is_zero(val, v) {
                 return Choice::Zero;
             }
         }
@@ -206,7 +238,7 @@ fn choice_of(val: &[u8], v: usize, kind: u8) -> Choice
     }
     if starts_with(val, v, kind, 1) {
         if number_of(val, v) == 0 {
-            if is_below(val, v, 0) {
+            if is_zero(val, v) {
                 return Choice::One;
             }
         }
@@ -219,7 +251,7 @@ fn count_of(val: &[u8], v: usize, kind: u8) -> Count
     ensures { λ r. ⌜ r ≡ count-at (now (val .entry)) v kind ⌝ }
 {
     if starts_with(val, v, kind, 0) {
-        if is_below(val, v, 0) {
+        if is_zero(val, v) {
             return Count::Of(number_of(val, v));
         }
     }

@@ -1,6 +1,6 @@
 -- The walks over a record, a row, a sum, a block and a list, which call each other. Each sees what it is to see:
 --     a record     the row, the sum or the list that its form says, of what stands below it (`formed`)
---     a row        its first part, and then the rest from the next bit on (`Rowing`, the loop's invariant)
+--     a row        its first part, and then the rest from the next bit on (`Rowing`, the loop's invariant); of Booleans or integers a record each (`row-plain`)
 --     a sum        by its tag one of its two sides, and of one choice the payload with zeros behind it
 --     a list       a block of half the bound, and the list with that bound behind it (`list-more`)
 -- A call goes a level down, or stays on its level with fewer choices or half the bound: a level weighs more than all counts and bounds.
@@ -13,7 +13,7 @@ use Rattle.model.specs.Frames.{width}
 use Rattle.structural.specs.Laws.Bounds.{bound-small}
 use Rattle.told.specs.Laws.Rows.{given-copies}
 use Rattle.accept.specs.Laws.Walking.{level-some, end-there, width-there, Rowing, rowing-start, rowing-stands, rowing-inside, rowing-end, rowing-next, shares, few-given, others-given, few-hops, tag-inside, tag-fits, left-padded, right-padded, sum-left, sum-right, block-inside, block-some, block-none, block-stray}
-use Rattle.accept.proofs.Steps.{next-fits, as-product, as-sum, as-list, as-payload, record-nothing, record-bit, record-integer, record-product, record-sum, record-list, record-payload, row-few, sum-few, block-few, list-few, record-few, one-few, two, halved, listed-two, listed-more, inside-as, record-end, sum-padded, block-mul, block-run, half-mul, half-next, half-block, half-list, half-tag, two-block, row-end-there, row-width-there, row-next, one-given, one-there, one-inside, one-last, one-fits, one-run, one-clear, one-stray}
+use Rattle.accept.proofs.Steps.{next-fits, as-product, as-sum, as-list, as-payload, record-nothing, record-bit, record-integer, record-product, record-sum, record-list, record-payload, row-few, sum-few, block-few, list-few, record-few, one-few, two, halved, listed-two, listed-more, inside-as, record-end, sum-padded, block-mul, block-run, half-mul, half-next, half-block, half-list, half-tag, two-block, row-plain, row-end-there, row-width-there, row-next, one-given, one-there, one-inside, one-last, one-fits, one-run, one-clear, one-stray}
 use borrow.Fn.Kinds.{In}
 use borrow.Fn.PlainCycle.{Measures, is, falls, and}
 use Rattle.accept.proofs.see_block.Reads as see-block
@@ -33,6 +33,8 @@ use Rattle.accept.proofs.see_sum.Kinds as see-sum-kinds
 use Rattle.accept.proofs.+see_block+see_list+see_record+see_row+see_sum.Lts-see_sum as see-sum-lts
 use Rattle.told.proofs.after_part.Reads as after-part-reads
 use Rattle.accept.proofs.both.Reads as both-reads
+use Rattle.accept.proofs.is_plain.Reads as is-plain-reads
+use Rattle.accept.proofs.so_many.Reads as so-many-reads
 use Rattle.array.proofs.btree_split_index.Reads as btree-split-index-reads
 use Rattle.bits.proofs.get_bit.Reads as get-bit-reads
 use Rattle.bits.proofs.is_zero_run.Reads as is-zero-run-reads
@@ -65,7 +67,7 @@ Inv-loop ty ends widths at level n parts frame bit all₀ place₀ here₀ left�
 abbrev μ-loop : see-row-lts.MeasureT-loop
 μ-loop ty ends widths at level n parts frame bit all₀ place₀ here₀ left₀ all place here left = left
 
-ruleset steps = (level-some, end-there, width-there, next-fits, record-nothing, record-bit, record-integer, record-product, record-sum, record-list, record-payload, record-end, row-few, sum-few, block-few, list-few, record-few, one-few, rowing-start, rowing-stands, rowing-inside, rowing-end, rowing-next, row-end-there, row-width-there, row-next, one-given, one-there, one-last, one-fits, one-run, one-clear, one-stray, block-inside, block-some, block-none, block-stray, block-mul, block-run, listed-two, needs)
+ruleset steps = (level-some, end-there, width-there, next-fits, record-nothing, record-bit, record-integer, record-product, record-sum, record-list, record-payload, record-end, row-few, sum-few, block-few, list-few, record-few, one-few, rowing-start, rowing-stands, rowing-inside, rowing-end, rowing-next, row-plain, row-end-there, row-width-there, row-next, one-given, one-there, one-last, one-fits, one-run, one-clear, one-stray, block-inside, block-some, block-none, block-stray, block-mul, block-run, listed-two, needs)
 
 module _ (t : ℕ) where
   abbrev see-block-at : In 4 see-block-kinds.ps
@@ -108,7 +110,7 @@ module _ (t : ℕ) where
   see-record-calls = (head-at-reads.Asked, head-at-reads.Learnt, form-of-reads.Asked, form-of-reads.Learnt, see-row-below, see-row.Post, both-reads.Asked, both-reads.Learnt, see-sum-below, see-sum.Post, see-list-below, see-list.Post)
 
   abbrev see-row-calls : see-row-lts.Claims
-  see-row-calls = (see-record-below, see-record.Post, both-reads.Asked, both-reads.Learnt, after-part-reads.Asked, after-part-reads.Learnt)
+  see-row-calls = (is-plain-reads.Asked, is-plain-reads.Learnt, so-many-reads.Asked, so-many-reads.Learnt, see-record-below, see-record.Post, both-reads.Asked, both-reads.Learnt, after-part-reads.Asked, after-part-reads.Learnt)
 
   abbrev see-sum-calls : see-sum-lts.Claims
   see-sum-calls = (is-zero-run-reads.Asked, is-zero-run-reads.Learnt, see-record-below, see-record.Post, btree-split-index-reads.Asked, btree-split-index-reads.Learnt, get-bit-reads.Asked, get-bit-reads.Learnt, hop-reads.Asked, hop-reads.Learnt, see-sum-below, see-sum.Post)
@@ -253,11 +255,11 @@ module _ (t : ℕ) where
 
   see-row-see-record-requires : see-row-lts.Need-see-record-requires see-row-calls see-row-at see-row.Post Inv-loop μ-loop
   see-row-see-record-requires c κs =
-      let m = c .before .before .before .before .before .before .pre .0 in
-      let p0 = c .before .before .before .before .before .before .pre .1 .0 in
-      let p1 = c .before .before .before .before .before .before .pre .1 .1 .0 in
-      let p2 = c .before .before .before .before .before .before .pre .1 .1 .1 in
-      let a = c .before .before .before .before .before .before .args in
+      let m = c .before .before .before .before .before .before .before .before .pre .0 in
+      let p0 = c .before .before .before .before .before .before .before .before .pre .1 .0 in
+      let p1 = c .before .before .before .before .before .before .before .before .pre .1 .1 .0 in
+      let p2 = c .before .before .before .before .before .before .before .before .pre .1 .1 .1 in
+      let a = c .before .before .before .before .before .before .before .before .args in
       let r = c .before .loop .inv in
       let h = c .loop-test .taken in
       (omega arith, (rowing-stands r h, (p1, rowing-inside r h)))
@@ -410,5 +412,5 @@ pub +see-block+see-list+see-record+see-row+see-sum-spec : {M : Type 1} → state
     (λ t. see-block-lts.spec (see-block-calls t) (see-block-at t) see-block.Post (λ c κs. search steps) (λ c. search steps) (see-block-see-row-requires t) (λ c. search steps) (λ c. search steps) (λ c. search steps) (λ c. search steps) (λ c. search steps) (λ c κs. search steps) (λ c. search steps) (λ c. search steps))
     (λ t. see-list-lts.spec (see-list-calls t) (see-list-at t) see-list.Post (λ c κs. search steps) (λ c. search steps) (see-list-see-block-requires t) (λ c. search steps) (λ c κs. search steps) (see-list-add-next t) (λ c. search steps) (λ c. search steps) (see-list-mul-next-2 t) (see-list-add-next-2 t) (see-list-see-block-requires-2 t) (see-list-see-list-requires t) (λ c κs. search steps) (λ c. search steps) (see-list-returns-2 t))
     (λ t. see-record-lts.spec (see-record-calls t) (see-record-at t) see-record.Post (λ c κs. search steps) (λ c κs. search steps) (λ c. search steps) (λ c. search steps) (λ c. search steps) (λ c. search steps) (λ c. search steps) (λ c. search steps) (see-record-see-row-requires t) (λ c κs. search steps) (λ c. search steps) (λ c. search steps) (λ c. search steps) (λ c. search steps) (λ c. search steps) (λ c. search steps) (see-record-see-sum-requires t) (λ c κs. search steps) (λ c. search steps) (λ c. search steps) (λ c. search steps) (see-record-see-list-requires t) (λ c κs. search steps) (λ c. search steps) (λ c. search steps) (λ c. search steps) (see-record-see-row-requires-2 t) (λ c. search steps) (λ c. search steps) (λ c. search steps) (λ c. search steps) (λ c. search steps) (λ c. search steps) (λ c. search steps))
-    (λ t. see-row-lts.spec (see-row-calls t) (see-row-at t) see-row.Post Inv-loop μ-loop (λ c. search steps) (see-row-see-record-requires t) (λ c κs. search steps) (λ c. search steps) (λ c. search steps) (λ c. search steps) (see-row-after-part-requires t) (λ c. search steps) (λ c. search steps) (λ c. search steps) (λ c. search steps))
+    (λ t. see-row-lts.spec (see-row-calls t) (see-row-at t) see-row.Post Inv-loop μ-loop (λ c κs. search needs) (λ c κs. search needs) (λ c. search steps) (λ c. search steps) (see-row-see-record-requires t) (λ c κs. search steps) (λ c. search steps) (λ c. search steps) (λ c. search steps) (see-row-after-part-requires t) (λ c. search steps) (λ c. search steps) (λ c. search steps) (λ c. search steps))
     (λ t. see-sum-lts.spec (see-sum-calls t) (see-sum-at t) see-sum.Post (λ c. search steps) (λ c. search steps) (λ c. search steps) (λ c. search steps) (λ c κs. search steps) (see-sum-see-record-requires t) (λ c. search steps) (λ c. search steps) (λ c κs. search steps) (see-sum-get-bit-requires t) (see-sum-sub-others t) (see-sum-hop-requires t) (see-sum-add-see-sum t) (see-sum-see-sum-requires t) (see-sum-returns-3 t) (see-sum-add-see-sum-2 t) (see-sum-see-sum-requires-2 t) (see-sum-returns-4 t))

@@ -1,37 +1,46 @@
 -- What the walk answers of numbers and places, in the form in which the code's needs ask it.
-use mathlib.Core.Path.{_≡_, refl, sym, ap, ap₂, _∙_}
+use mathlib.Core.Path.{_≡_, refl, sym, ap, ap₂, subst, _∙_}
+use mathlib.Core.Bool.{Bool, false}
 use mathlib.Core.List.{List}
 use mathlib.Core.Option.{Option, none, some}
 use Prim.Native.Nat.{ℕ, _+_, _≤_, _<_}
 use native.Mathlib.Omega.{arith}
-use lib.ListN.{getD}
+use mir.Syntax.{w64}
+use mir.Val.{Fits}
+use Rattle.types.specs.declared.Head.{Head}
+use Rattle.types.specs.Record.{headAt}
+use Rattle.types.specs.Heads.{Fair}
 use Rattle.told.specs.declared.Parts.{Parts}
-use Rattle.told.specs.declared.Parts.the-variants.{Copies, Types}
+use Rattle.told.specs.declared.Parts.the-variants.{Copies}
+use Rattle.record.specs.declared.Form.{Form}
+use Rattle.record.specs.Forms.{form-of}
 use Rattle.rebuild.specs.Forms.{most-records}
 use Rattle.accept.specs.declared.Seen.{Seen}
 use Rattle.accept.specs.declared.Seen.the-variants.{Of, Stray}
 use Rattle.accept.specs.Forms.{plus}
-use Rattle.told.specs.Forms.{after-at}
-use Rattle.accept.specs.Answers.{cut, answer, count-of, both-of, Counted}
+use Rattle.accept.specs.Answers.{answer, count-of, both-of, plain-form, plain, Plain, Counted}
 
--- PLACES
+-- COPIES
 
-pub after-copies : (k : Parts) (E : List ℕ) (p : ℕ) → k ≡ Copies → p ≡ after-at k E p
-after-copies k E p e = sym (ap (λ k. after-at k E p) e)
+pub plain-not : (k : Parts) (s : List ℕ) (p : ℕ) → Plain k s p false
+plain-not k s p = record { same = λ i. absurd (let z : _≡_ {A = ℕ} 0 1 = cc in omega arith); fair = λ i. absurd (let z : _≡_ {A = ℕ} 0 1 = cc in omega arith) }
 
-pub after-types : (k : Parts) (E : List ℕ) (p x : ℕ) → k ≡ Types → x ≡ getD E p 0 → x ≡ after-at k E p
-after-types k E p x e h = h ∙ sym (ap (λ k. after-at k E p) e)
+pub plain-as : (k : Parts) (s : List ℕ) (p : ℕ) (h : Head) (f x : Form) (r : Bool) → k ≡ Copies → h ≡ headAt s p → Fair h → f ≡ form-of h → f ≡ x → r ≡ plain-form x → Plain k s p r
+plain-as k s p h f x r e i g j l m = record {
+  same = λ o. ap (λ k. plain k (form-of (headAt s p))) e ∙ ap plain-form (ap form-of (sym i) ∙ sym j ∙ l) ∙ sym m ∙ o;
+  fair = λ o. subst Fair i g;
+}
 
 -- NUMBERS
 
-pub add-most : (n m : ℕ) → most-records < n + m → Of most-records ≡ Of (cut (n + m))
-add-most n m h = ap Of (omega arith)
+pub so-many-most : (n : ℕ) → most-records < n → Of most-records ≡ answer (some n)
+so-many-most n h = ap Of (omega arith)
 
-pub add-less : (n m : ℕ) → n + m ≤ most-records → Of (n + m) ≡ Of (cut (n + m))
-add-less n m h = ap Of (omega arith)
+pub so-many-all : (n : ℕ) → n ≤ most-records → Of n ≡ answer (some n)
+so-many-all n h = ap Of (omega arith)
 
-pub count-small : (a : Seen) (n : ℕ) → count-of a ≤ most-records → a ≡ Of n → n ≤ most-records
-count-small a n h e = let i : count-of a ≡ n = ap count-of e in omega arith
+pub sum-fits : (a b : Seen) (n m : ℕ) → a ≡ Of n → b ≡ Of m → count-of a ≤ most-records → count-of b ≤ most-records → Fits w64 (n + m)
+sum-fits a b n m e f g h = let i : count-of a ≡ n = ap count-of e in let j : count-of b ≡ m = ap count-of f in omega arith
 
 pub both-stray : (a b : Seen) → a ≡ Stray → Stray ≡ both-of a b
 both-stray a b e = sym (ap (λ a. both-of a b) e)
@@ -39,7 +48,7 @@ both-stray a b e = sym (ap (λ a. both-of a b) e)
 pub stray-second : (a b : Seen) (n : ℕ) → a ≡ Of n → b ≡ Stray → Stray ≡ both-of a b
 stray-second a b n e f = sym (ap₂ both-of e f)
 
-pub both-known : (a b r : Seen) (n m : ℕ) → a ≡ Of n → b ≡ Of m → r ≡ both-of (Of n) (Of m) → r ≡ both-of a b
+pub both-known : (a b r : Seen) (n m : ℕ) → a ≡ Of n → b ≡ Of m → r ≡ answer (some (n + m)) → r ≡ both-of a b
 both-known a b r n m e f h = h ∙ sym (ap₂ both-of e f)
 
 -- SUMS

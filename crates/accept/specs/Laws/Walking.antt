@@ -37,6 +37,7 @@ use Rattle.told.specs.Forms.{after-at}
 use Rattle.accept.specs.Answers.{answer, count-of, both-of, Padded}
 use Rattle.accept.specs.Laws.Sums.{choice-one, choice-left, choice-right}
 use Rattle.accept.specs.Laws.Seen.{skip-hops}
+use Rattle.accept.specs.Laws.Formed.{BitsSeen}
 use Rattle.accept.specs.Laws.Answers.{both-assoc, answer-plus, none-first, none-last}
 
 -- PLACES
@@ -85,6 +86,12 @@ module _ (k : Parts) (d : ℕ) (s : List ℕ) (n p : ℕ) (fr : List ℕ) (bit :
       go : (n : ℕ) → 0 < n → row-width k d s n p ≡ width (standing d s p) + row-width k d s (n - 1) (after k d s p)
       go zero h = absurd (omega arith)
       go (suc n) h = rw sub-one refl
+
+-- copies of what is only bits have a record each
+pub copies-bits : (d : ℕ) (s : List ℕ) (p : ℕ) → BitsSeen d s p → (n : ℕ) (fr : List ℕ) (bit : ℕ) → bit + row-width Copies d s n p ≤ 8 * length fr → seen-row Copies d s n p fr bit ≡ some n
+unfolding seen-row row-width after
+copies-bits d s p b zero fr bit h = refl
+copies-bits d s p b (suc n) fr bit h = ap₂ plus (b .same fr bit (omega arith)) (copies-bits d s p b n fr (bit + width (standing d s p)) (omega arith)) ∙ ap some (omega arith)
 
 -- all was seen of the n parts from p on but the last `left`, which stand from record q on and from the bit `here` on
 pub record Rowing (k : Parts) (d : ℕ) (s E : List ℕ) (n p : ℕ) (fr : List ℕ) (bit : ℕ) (all : Seen) (q here left : ℕ) : Type 0 where

@@ -11,22 +11,19 @@ use lib.ListN.{length, getD, take, drop, length-take, length-drop}
 use lib.Seq.{take-all}
 use borrow.Author.Tests.{eq-eqb, ne-eqb}
 use Rattle.reply.specs.declared.Refusal.the-variants.{FrameLength, StrayBit}
-use Rattle.model.specs.Numbers.{never-stands, too-large, frame-length, stray-bit, most-shape-records}
+use Rattle.model.specs.Numbers.{frame-length, stray-bit, most-shape-records}
 use Rattle.model.specs.Outcome.{Outcome, done, refused, refuse, or-refuse, _>>=_, _>>_}
 use Rattle.model.specs.Options.{any, mapO}
 use Rattle.model.specs.Bytes.{bits-of, bytes-for}
 use Rattle.model.specs.Structural.{SValue, type-records}
 use Rattle.model.specs.Types.{Ty}
-use Rattle.model.specs.Lowering.{lower, has-never, over-large}
+use Rattle.model.specs.Lowering.{lower}
 use Rattle.model.specs.Values.{Value}
 use Rattle.model.specs.ShapeFiles.{shape-file}
 use Rattle.model.specs.Reconstruct.{reconstruct}
 use Rattle.model.specs.ValueFiles.{encode}
 use Rattle.model.specs.Frames.{width, from-bits, padding, unframe}
-use Rattle.model.specs.Operations.{lowering}
-use Rattle.model.specs.TypeFiles.{type-of}
-use Rattle.model.specs.Laws.Outcome.{done-injective, outcome-step, refuse-step}
-use Rattle.model.specs.Laws.Lowering.{small}
+use Rattle.model.specs.Laws.Lowering.{small, lowers-not-large}
 use Rattle.model.specs.Laws.Bytes.{length-bits-of}
 use Rattle.model.specs.Laws.Frames.{from-bits-belongs}
 use Rattle.model.specs.Laws.Sizes.{length-type-records, shape-size}
@@ -126,16 +123,8 @@ module _ {s E W : List ℕ} (g : Given 32 false s E 0) (u : Wide s E W) where
 
   -- A VALUE'S RECORDS are few, so that none is lost in counting
 
-  -- row 7 does not hold
   few-nodes : Lowered s → length (type-records (lower (typeOf s))) ≤ most-shape-records
-  unfolding lowering
-  few-nodes l =
-      let t = typeOf s in
-      let (v, e, f) = outcome-step (type-of s) (λ v. refuse never-stands (has-never v) >> (refuse too-large (over-large v) >> done v)) t (l .lowers) in
-      let (x, h) = refuse-step never-stands (has-never v) (refuse too-large (over-large v) >> done v) t f in
-      let (y, k) = refuse-step too-large (over-large v) (done v) t h in
-      let same : v ≡ t = done-injective v t k in
-      small t (ap over-large (sym same) ∙ y)
+  few-nodes l = small (typeOf s) (lowers-not-large s (typeOf s) (l .lowers))
 
   module _ (l : Lowered s) (fr : List ℕ) (n : length fr ≡ bytes-for (width (lower (typeOf s)))) where
     abbrev own : List Bool

@@ -1,7 +1,7 @@
 -- A bit's place is bit at % 8 of byte at / 8: what one byte, or two neighbours, hold there is what the slice holds at bit `at`.
-use mathlib.Core.Path.{_≡_, refl, sym, ap, ap₂, subst₂, _∙_}
+use mathlib.Core.Path.{_≡_, refl, sym, ap, ap₂, subst, subst₂, _∙_}
 use mathlib.Core.Bool.{Bool, true, false}
-use mathlib.Core.List.{List, [], _∷_, append-nil}
+use mathlib.Core.List.{List, [], _∷_, _++_, append-nil}
 use mathlib.Core.Logic.{_≢_}
 use Prim.Native.Nat.{ℕ, suc, _+_, _-_, _*_, _/_, _%_, _^_, _≤_, _<_}
 use native.Mathlib.Nat.{add-zero}
@@ -14,8 +14,10 @@ use lib.Seq.{drop-cons, getD-drop, getD-take}
 use Rattle.model.specs.Bytes.{byte-bits, bits-of}
 use Rattle.bits.specs.Bits.{splice, bits-at, Wrote}
 use Rattle.bits.specs.Laws.Splice.{splice-one, splice-then}
+use Rattle.bits.specs.Laws.Writing.{wrote-then}
 use Rattle.bits.specs.Laws.Byte.{bit-of, bit-set, bit-cleared, byte-read, byte-put}
 use Rattle.bits.specs.Laws.Window.{bits-within, wrote-within}
+use Rattle.bits.specs.Laws.Runs.{bits-at-add}
 
 -- ONE BYTE AND TWO, in a list
 
@@ -91,3 +93,19 @@ module _ (d : List ℕ) (at : ℕ) where
     unfolding byte-bits
     wrote-across v hv n =
         rw add-one (wrote-two (byte-bits v) _ _ (omega arith) (omega arith) (byte-put (getD d (at / 8) 0) (getD d (suc (at / 8)) 0) v (at % 8) hv (omega arith)))
+
+-- BYTE AFTER BYTE, from a byte's first bit on
+
+-- behind i bytes stands the next one
+pub wrote-next : {d x : List ℕ} {at : ℕ} {s : List Bool} (i v : ℕ) → Wrote d at s x → length s ≡ 8 * i → at % 8 ≡ 0 → at + 8 * i + 8 ≤ 8 * length d → Wrote d at (s ++ byte-bits v) (set x (at / 8 + i) v)
+wrote-next {d} {x} {at} {s} i v u n z h =
+    let e : at + 8 * i ≡ at + length s = omega arith in
+    let q : (at + 8 * i) / 8 ≡ at / 8 + i = omega arith in
+    let w : Wrote x (at + 8 * i) (byte-bits v) (set x ((at + 8 * i) / 8) v) = wrote-aligned x (at + 8 * i) (omega (arith, u .same)) v (omega arith) in
+    wrote-then u (subst (λ k. Wrote x (at + 8 * i) (byte-bits v) (set x k v)) q w) e
+
+pub bytes-next : (d : List ℕ) (at i : ℕ) → at % 8 ≡ 0 → at + 8 * i + 8 ≤ 8 * length d → bits-at d at (8 * i) ++ byte-bits (getD d (at / 8 + i) 0) ≡ bits-at d at (8 * (i + 1))
+bytes-next d at i z h =
+    let q : (at + 8 * i) / 8 ≡ at / 8 + i = omega arith in
+    let e : 8 * i + 8 ≡ 8 * (i + 1) = omega arith in
+    ap (λ x. bits-at d at (8 * i) ++ x) (ap (λ k. byte-bits (getD d k 0)) (sym q) ∙ byte-aligned d (at + 8 * i) h (omega arith)) ∙ sym (bits-at-add d at (8 * i) 8) ∙ ap (bits-at d at) e

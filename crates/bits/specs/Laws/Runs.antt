@@ -23,7 +23,7 @@ bits-at-add l at m n = take-add m n (drop at (bits-of l)) ∙ ap (λ x. bits-at 
 
 -- RUNS OF ZEROS
 
-any-behind : (xs ys : List Bool) → any xs ≡ false → any (xs ++ ys) ≡ any ys
+pub any-behind : (xs ys : List Bool) → any xs ≡ false → any (xs ++ ys) ≡ any ys
 any-behind [] ys h = refl
 any-behind (true ∷ xs) ys h = absurd (let z : _≡_ {A = ℕ} 0 1 = cc in omega arith)
 any-behind (false ∷ xs) ys h = any-behind xs ys h

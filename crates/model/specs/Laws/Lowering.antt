@@ -1,5 +1,5 @@
 -- What a type that lowers is known by: its file says it, no Never stands in it, and its lowered type has at most 65,536 records.
-use mathlib.Core.Path.{_≡_}
+use mathlib.Core.Path.{_≡_, sym, ap, _∙_}
 use mathlib.Core.Bool.{Bool, false, _||_}
 use mathlib.Core.List.{List}
 use Prim.Native.Nat.{ℕ, _≤_}
@@ -55,6 +55,15 @@ small (tuple ts) h = not-large (tuple ts) _ h
 small (array a n) h = not-large (array a n) _ h
 small (list a e) h = not-large (list a e) _ h
 small (enum vs) h = not-large (enum vs) _ h
+
+-- row 7 does not hold of a type that lowers
+pub lowers-not-large : (ty : List ℕ) (t : Ty) → lowering ty ≡ done t → over-large t ≡ false
+unfolding lowering
+lowers-not-large ty t h =
+    let (u, e, f) = outcome-step (type-of ty) (λ u. refuse never-stands (has-never u) >> (refuse too-large (over-large u) >> done u)) t h in
+    let (x, g) = refuse-step never-stands (has-never u) (refuse too-large (over-large u) >> done u) t f in
+    let (y, k) = refuse-step too-large (over-large u) (done u) t g in
+    ap over-large (sym (done-injective u t k)) ∙ y
 
 pub record Known (ty : List ℕ) (t : Ty) : Type 0 where
   pub says : type-of ty ≡ done t

@@ -1,10 +1,11 @@
 -- The writers of a record, a part, a tree, a block and a list, which call each other. Each writes what it is to write:
 --     a record     the tree or the list that its form says, of what stands below it (`formed`)
---     a tree       of two parts or more the record that joins its sides, the left side, and the right side into the rest behind it (`tree-fork`)
+--     a tree       of two parts or more the record that joins its sides, the left side, and the right side into the rest behind it (`tree-fork`), or the left side once more where the right side is the same (`tree-twice`)
 --     a list       likewise the record of a product, a block of half the bound, and the list with that bound (`list-fork`)
 -- A call goes a level down, or stays on its level with fewer parts or half the bound: a level weighs more than all counts and bounds.
 -- Assumes nothing.
 use mathlib.Core.Path.{_≡_, refl, sym, ap, _∙_}
+use mathlib.Core.Bool.{true}
 use mathlib.Core.List.{List}
 use Prim.Native.Nat.{ℕ, _+_, _-_, _*_, _^_, _<_}
 use native.Mathlib.Omega.{arith}
@@ -12,13 +13,13 @@ use borrow.Author.Needs.{needs}
 use borrow.Fn.Kinds.{In}
 use borrow.Fn.PlainCycle.{Measures, is, falls, and}
 use Rattle.model.specs.Structural.{type-records}
-use Rattle.structural.specs.Forms.{standing, skip, balanced, block-of, listed}
-use Rattle.structural.specs.Laws.Writing.{wrote-length, wrote-as, Fork, fork-start, left-room, left-small, left-fits, right-room, fork-done, fork-small}
+use Rattle.structural.specs.Forms.{all-same, standing, skip, balanced, block-of, listed}
+use Rattle.structural.specs.Laws.Writing.{wrote-length, wrote-as, Fork, fork-start, left-room, left-small, left-fits, right-room, fork-done, fork-small, again-room, again-done, again-small}
 use Rattle.structural.specs.Laws.Bounds.{bound-small}
-use Rattle.structural.specs.Laws.Trees.{room-some, tree-fork, given-copies}
+use Rattle.structural.specs.Laws.Trees.{room-some, tree-fork, tree-twice, given-copies}
 use Rattle.structural.specs.Laws.Lists.{list-two, Halved, list-more, list-fork}
 use Rattle.structural.specs.Laws.Forms.{TreeOf, ListOf}
-use Rattle.structural.proofs.Steps.{level-some, next-fits, as-tree, as-list, bit-room, bit-placed, copy-placed, part-given, part-room, part-inside, part-placed, block-second, block-start, block-room, block-done, block-length, block-fits, none-room, none-placed, one-room, one-placed, one-given, Shares, shares, left-given, right-given, tree-placed}
+use Rattle.structural.proofs.Steps.{level-some, next-fits, as-tree, as-list, bit-room, bit-placed, copy-placed, part-given, part-room, part-inside, part-placed, block-second, block-start, block-room, block-done, block-length, block-fits, none-room, none-placed, one-room, one-placed, one-given, Shares, shares, left-given, right-given, tree-placed, twice-placed}
 use Rattle.num.specs.declared.NonZeroPow2Usize.{NonZeroPow2Usize}
 use Rattle.structural.proofs.write_block.Reads as write-block
 use Rattle.structural.proofs.write_block.Kinds as write-block-kinds
@@ -38,8 +39,10 @@ use Rattle.structural.proofs.+write_block+write_list+write_part+write_r
 use Rattle.array.proofs.btree_split_index.Reads as btree-split-index-reads
 use Rattle.num.proofs.NonZeroPow2Usize.checked_div2.Reads as checked-div2-reads
 use Rattle.num.proofs.NonZeroPow2Usize.get.Reads as get-reads
+use Rattle.structural.proofs.are_same.Reads as are-same-reads
 use Rattle.structural.proofs.form_of.Reads as form-of-reads
 use Rattle.structural.proofs.joint.Reads as joint-reads
+use Rattle.structural.proofs.repeat.Reads as repeat-reads
 use Rattle.structural.proofs.write_bit.Reads as write-bit-reads
 use Rattle.structural.proofs.write_unit.Reads as write-unit-reads
 use Rattle.types.proofs.head_at.Reads as head-at-reads
@@ -107,7 +110,7 @@ module _ (t : ℕ) where
   write-record-calls = (head-at-reads.Asked, head-at-reads.Learnt, form-of-reads.Asked, form-of-reads.Learnt, write-tree-below, write-tree.Post, write-list-below, write-list.Post)
 
   abbrev write-tree-calls : write-tree-lts.Claims
-  write-tree-calls = (write-unit-reads.Asked, write-unit-reads.Learnt, write-part-below, write-part.Post, joint-reads.Asked, joint-reads.Learnt, btree-split-index-reads.Asked, btree-split-index-reads.Learnt, write-tree-below, write-tree.Post)
+  write-tree-calls = (write-unit-reads.Asked, write-unit-reads.Learnt, write-part-below, write-part.Post, joint-reads.Asked, joint-reads.Learnt, btree-split-index-reads.Asked, btree-split-index-reads.Learnt, write-tree-below, write-tree.Post, are-same-reads.Asked, are-same-reads.Learnt, repeat-reads.Asked, repeat-reads.Learnt)
 
   write-block-write-tree-requires : write-block-lts.Need-write-tree-requires write-block-calls write-block-at write-block.Post
   write-block-write-tree-requires c κs = let g = c .before .before .before .before .pre in (omega arith, (omega arith, (given-copies _ (g .1 .1 .0), search steps)))
@@ -226,32 +229,58 @@ module _ (t : ℕ) where
       let l = split (c .before) in
       (omega arith, (omega arith, (left-given l (tree-start (c .before) .pre .1 .1 .0), left-room (sides (c .before) _ refl))))
 
+  same : (c : write-tree-lts.Then4 write-tree-calls write-tree-at write-tree.Post) → all-same (tree-start (c .before .before .before .before .before .before .before) .args .parts) ≡ true
+  same c = sym (c .before .are-same .ensures) ∙ c .if4 .taken
+
+  -- what is written of a tree whose sides are the same
+  twice : (c : write-tree-lts.Then4 write-tree-calls write-tree-at write-tree.Post)
+      → Fork (c .before .before .before .before .before .before .before .before .joint .result) (tree-records (tree-start (c .before .before .before .before .before .before .before)) (c .before .before .before .before .before .before .before .btree-split-index .result) (tree-start (c .before .before .before .before .before .before .before) .args .at)) (tree-records (tree-start (c .before .before .before .before .before .before .before)) (c .before .before .before .before .before .before .before .btree-split-index .result) (tree-start (c .before .before .before .before .before .before .before) .args .at)) (tree-records (tree-start (c .before .before .before .before .before .before .before)) (tree-start (c .before .before .before .before .before .before .before) .args .n) (tree-start (c .before .before .before .before .before .before .before) .args .at)) (tree-start (c .before .before .before .before .before .before .before) .args .out .now)
+  twice c = tree-twice _ _ _ _ _ _ _ _ (c .before .before .before .before .before .before .before .btree-split-index .ensures) (c .before .before .before .before .before .before .before .before .before .before .if1 .left) (c .before .before .before .before .before .before .before .before .before .if2 .left) (c .before .before .before .before .before .before .before .before .joint .ensures) (same c) (c .before .before .if3 .taken) (tree-start (c .before .before .before .before .before .before .before) .pre .1 .1 .1)
+
+  write-tree-sub-repeat : write-tree-lts.Need-sub-repeat write-tree-calls write-tree-at write-tree.Post
+  write-tree-sub-repeat c = omega (arith, left-fits (twice c) (c .before .before .before .before .before .write-tree .ensures .wrote))
+
+  write-tree-part-repeat-start : write-tree-lts.Need-part-repeat-start write-tree-calls write-tree-at write-tree.Post
+  write-tree-part-repeat-start c = omega (arith, left-fits (twice c) (c .before .before .before .before .before .write-tree .ensures .wrote))
+
+  write-tree-repeat-requires : write-tree-lts.Need-repeat-requires write-tree-calls write-tree-at write-tree.Post
+  write-tree-repeat-requires c κs = again-room (twice (c .before)) (c .before .before .before .before .before .before .write-tree .ensures .wrote)
+
+  write-tree-add-t32 : write-tree-lts.Need-add-t32 write-tree-calls write-tree-at write-tree.Post
+  write-tree-add-t32 c = let g = c .before .before .before .before .before .before .before .before .before .before .before .before .before .before .before .before .before .before .good in omega (arith, again-small (twice (c .before .before .before .before)) (c .before .before .before .before .before .before .before .before .before .write-tree .ensures .wrote) (c .before .before .repeat .ensures))
+
+  write-tree-returns-3 : write-tree-lts.Need-returns-3 write-tree-calls write-tree-at write-tree.Post
+  write-tree-returns-3 c = twice-placed _ _ _ _ _ (same (c .before .before .before .before)) (again-done (twice (c .before .before .before .before)) (c .before .before .before .before .before .before .before .before .before .write-tree .ensures .wrote) (c .before .before .repeat .ensures))
+
+  write-tree-same-length-3 : write-tree-lts.Need-same-length-3 write-tree-calls write-tree-at write-tree.Post
+  write-tree-same-length-3 c = wrote-length (write-tree-returns-3 c .wrote) (c .before .before .before .before .before .before .before .before .before .before .before .before .before .before .before .before .before .before .pre .1 .1 .1)
+
   write-tree-add-k : write-tree-lts.Need-add-k write-tree-calls write-tree-at write-tree.Post
-  write-tree-add-k c = omega (arith, left-small (sides (c .before .before .before .before .before) _ refl) (c .before .before .before .write-tree .ensures .wrote))
+  write-tree-add-k c = omega (arith, left-small (sides (c .before .before .before .before .before .before) _ refl) (c .before .before .before .before .write-tree .ensures .wrote))
 
   write-tree-sub-write-tree-2 : write-tree-lts.Need-sub-write-tree-2 write-tree-calls write-tree-at write-tree.Post
-  write-tree-sub-write-tree-2 c = left-fits (sides (c .before .before .before .before .before) _ refl) (c .before .before .before .write-tree .ensures .wrote)
+  write-tree-sub-write-tree-2 c = left-fits (sides (c .before .before .before .before .before .before) _ refl) (c .before .before .before .before .write-tree .ensures .wrote)
 
   write-tree-part-write-tree-start-2 : write-tree-lts.Need-part-write-tree-start-2 write-tree-calls write-tree-at write-tree.Post
-  write-tree-part-write-tree-start-2 c = left-fits (sides (c .before .before .before .before .before) _ refl) (c .before .before .before .write-tree .ensures .wrote)
+  write-tree-part-write-tree-start-2 c = left-fits (sides (c .before .before .before .before .before .before) _ refl) (c .before .before .before .before .write-tree .ensures .wrote)
 
   write-tree-write-tree-requires-2 : write-tree-lts.Need-write-tree-requires-2 write-tree-calls write-tree-at write-tree.Post
   write-tree-write-tree-requires-2 c κs =
-      let l = split (c .before .before .before .before .before .before) in
-      let v = c .before .before .before .before .write-tree .ensures in
-      (omega arith, (omega arith, (right-given l (tree-start (c .before .before .before .before .before .before) .pre .1 .1 .0) (v .next), right-room (sides (c .before .before .before .before .before .before) _ (v .next)) (v .wrote))))
+      let l = split (c .before .before .before .before .before .before .before) in
+      let v = c .before .before .before .before .before .write-tree .ensures in
+      (omega arith, (omega arith, (right-given l (tree-start (c .before .before .before .before .before .before .before) .pre .1 .1 .0) (v .next), right-room (sides (c .before .before .before .before .before .before .before) _ (v .next)) (v .wrote))))
 
   write-tree-add-t22 : write-tree-lts.Need-add-t22 write-tree-calls write-tree-at write-tree.Post
-  write-tree-add-t22 c = let g = c .before .before .before .before .before .before .before .before .before .before .before .before .before .before .before .before .before .good in omega (arith, fork-small (sides (c .before .before .before .before .before .before .before .before .before .before) _ (c .before .before .before .before .before .before .before .before .write-tree .ensures .next)) (c .before .before .before .before .before .before .before .before .write-tree .ensures .wrote) (c .before .before .before .write-tree2 .ensures .wrote))
+  write-tree-add-t22 c = let g = c .before .before .before .before .before .before .before .before .before .before .before .before .before .before .before .before .before .before .good in omega (arith, fork-small (sides (c .before .before .before .before .before .before .before .before .before .before .before) _ (c .before .before .before .before .before .before .before .before .before .write-tree .ensures .next)) (c .before .before .before .before .before .before .before .before .before .write-tree .ensures .wrote) (c .before .before .before .write-tree2 .ensures .wrote))
 
-  write-tree-returns-3 : write-tree-lts.Need-returns-3 write-tree-calls write-tree-at write-tree.Post
-  write-tree-returns-3 c =
-      let v = c .before .before .before .before .before .before .before .before .write-tree .ensures in
+  write-tree-returns-4 : write-tree-lts.Need-returns-4 write-tree-calls write-tree-at write-tree.Post
+  write-tree-returns-4 c =
+      let v = c .before .before .before .before .before .before .before .before .before .write-tree .ensures in
       let u = c .before .before .before .write-tree2 .ensures in
-      tree-placed (split (c .before .before .before .before .before .before .before .before .before .before)) _ _ _ _ v u (fork-done (sides (c .before .before .before .before .before .before .before .before .before .before) _ (v .next)) (v .wrote) (u .wrote))
+      tree-placed (split (c .before .before .before .before .before .before .before .before .before .before .before)) _ _ _ _ v u (fork-done (sides (c .before .before .before .before .before .before .before .before .before .before .before) _ (v .next)) (v .wrote) (u .wrote))
 
-  write-tree-same-length-3 : write-tree-lts.Need-same-length-3 write-tree-calls write-tree-at write-tree.Post
-  write-tree-same-length-3 c = wrote-length (write-tree-returns-3 c .wrote) (c .before .before .before .before .before .before .before .before .before .before .before .before .before .before .before .before .before .pre .1 .1 .1)
+  write-tree-same-length-4 : write-tree-lts.Need-same-length-4 write-tree-calls write-tree-at write-tree.Post
+  write-tree-same-length-4 c = wrote-length (write-tree-returns-4 c .wrote) (c .before .before .before .before .before .before .before .before .before .before .before .before .before .before .before .before .before .before .pre .1 .1 .1)
 
 pub +write-block+write-list+write-part+write-record+write-tree-spec : {M : Type 1} → statement M
 +write-block+write-list+write-part+write-record+write-tree-spec =
@@ -260,4 +289,4 @@ pub +write-block+write-list+write-part+write-record+write-tree-spec : {M : Type 
     (λ t. write-list-lts.spec (write-list-calls t) (write-list-at t) write-list.Post (λ c κs. search steps) (λ c. search steps) (write-list-write-block-requires t) (λ c. search steps) (λ c. search steps) (λ c κs. search steps) (write-list-sub-write-block t) (write-list-part-write-block-start t) (λ c. search steps) (write-list-write-block-requires-2 t) (write-list-add-k t) (write-list-sub-write-list t) (write-list-part-write-list-start t) (λ c. search steps) (write-list-write-list-requires t) (write-list-add-result t) (λ c. search steps) (write-list-returns t) (write-list-same-length-2 t) (write-list-returns-2 t))
     (λ t. write-part-lts.spec (write-part-calls t) (write-part-at t) write-part.Post (λ c. search steps) (λ c κs. search steps) (λ c. search steps) (λ c κs. search steps) (λ c. search steps) (λ c. search steps) (λ c. search steps) (λ c κs. search steps) (λ c. search steps) (λ c. search steps) (λ c. search steps) (λ c κs. search steps) (λ c. search steps) (λ c. search steps) (λ c. search steps) (λ c. search steps) (λ c. search steps) (λ c. search steps) (λ c. search steps) (λ c. search steps))
     (λ t. write-record-lts.spec (write-record-calls t) (write-record-at t) write-record.Post (λ c κs. search steps) (λ c κs. search steps) (λ c. search steps) (λ c. search steps) (λ c. search steps) (write-record-write-tree-requires t) (λ c. search steps) (λ c. search steps) (λ c. search steps) (write-record-write-list-requires t) (λ c. search steps) (write-record-returns t) (λ c. search steps) (write-record-returns-2 t))
-    (λ t. write-tree-lts.spec (write-tree-calls t) (write-tree-at t) write-tree.Post (λ c κs. search steps) (λ c. search steps) (λ c. search steps) (λ c κs. search steps) (λ c. search steps) (λ c. search steps) (λ c κs. search steps) (λ c. search steps) (λ c κs. search steps) (write-tree-sub-others t) (write-tree-sub-write-tree t) (write-tree-part-write-tree-start t) (λ c. search steps) (write-tree-write-tree-requires t) (write-tree-add-k t) (write-tree-sub-write-tree-2 t) (write-tree-part-write-tree-start-2 t) (λ c. search steps) (write-tree-write-tree-requires-2 t) (write-tree-add-t22 t) (write-tree-same-length-3 t) (write-tree-returns-3 t))
+    (λ t. write-tree-lts.spec (write-tree-calls t) (write-tree-at t) write-tree.Post (λ c κs. search steps) (λ c. search steps) (λ c. search steps) (λ c κs. search steps) (λ c. search steps) (λ c. search steps) (λ c κs. search steps) (λ c. search steps) (λ c κs. search steps) (write-tree-sub-others t) (write-tree-sub-write-tree t) (write-tree-part-write-tree-start t) (λ c. search steps) (write-tree-write-tree-requires t) (λ c κs. search steps) (write-tree-sub-repeat t) (write-tree-part-repeat-start t) (λ c. search steps) (write-tree-repeat-requires t) (write-tree-add-t32 t) (write-tree-same-length-3 t) (write-tree-returns-3 t) (write-tree-add-k t) (write-tree-sub-write-tree-2 t) (write-tree-part-write-tree-start-2 t) (λ c. search steps) (write-tree-write-tree-requires-2 t) (write-tree-add-t22 t) (write-tree-same-length-4 t) (write-tree-returns-4 t))

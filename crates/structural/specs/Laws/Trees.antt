@@ -1,5 +1,6 @@
 -- Laws of balanced trees of parts, as code writes them: none, one, or the two sides of the tree, each of the parts that are its share.
-use mathlib.Core.Path.{_≡_, refl, sym, ap, ap₂, _∙_}
+use mathlib.Core.Path.{_≡_, refl, sym, ap, ap₂, subst, _∙_}
+use mathlib.Core.Bool.{true}
 use mathlib.Core.List.{List, [], _∷_, _++_}
 use Prim.Native.Nat.{ℕ, zero, suc, _+_, _-_, _≤_, _<_}
 use native.Mathlib.Nat.{zero-add, suc-add}
@@ -11,7 +12,7 @@ use Rattle.model.specs.Laws.Balanced.{split-bounds}
 use Rattle.model.specs.Laws.Sizes.{fold-none, fold-one, fold-step}
 use Rattle.structural.specs.declared.Parts.{Parts}
 use Rattle.structural.specs.declared.Parts.the-variants.{Bits, Copies, Types, Choices}
-use Rattle.structural.specs.Forms.{Room, standing, Stands, joint-of, join, part, after, skip, row, balanced, GivenPart, GivenParts}
+use Rattle.structural.specs.Forms.{Room, standing, Stands, joint-of, join, all-same, part, after, skip, row, balanced, GivenPart, GivenParts}
 use Rattle.structural.specs.Laws.Writing.{Fork}
 
 -- every type has a record
@@ -78,6 +79,24 @@ records-join Choices a b = refl
 pub tree-fork : (k : Parts) (d : ℕ) (s : List ℕ) (n few p q b : ℕ) (out : List ℕ) → few ≡ btree-split-index n → (n ≡ 0 → ⊥) → (n ≡ 1 → ⊥) → b ≡ joint-of k → q ≡ skip k d s few p → Room (balanced k d s n p) out
     → Fork b (type-records (balanced k d s few p)) (type-records (balanced k d s (n - few) q)) (type-records (balanced k d s n p)) out
 tree-fork k d s n few p q b out e z o j g r = record { same = rw (g, j, e) (ap type-records (balanced-step k d s n p (omega arith)) ∙ records-join k _ _); room = r }
+
+-- PARTS THAT ARE THE SAME
+
+same-after : (k : Parts) (d : ℕ) (s : List ℕ) → all-same k ≡ true → (q : ℕ) → after k d s q ≡ q
+unfolding after
+same-after Bits d s h q = refl
+same-after Copies d s h q = refl
+same-after Types d s h q = absurd (let z : _≡_ {A = ℕ} 0 1 = cc in omega arith)
+same-after Choices d s h q = absurd (let z : _≡_ {A = ℕ} 0 1 = cc in omega arith)
+
+-- where they stand, there is what is after them
+pub skip-same : (k : Parts) (d : ℕ) (s : List ℕ) (n p : ℕ) → all-same k ≡ true → skip k d s n p ≡ p
+skip-same k d s n p h = skip-stays k d s (same-after k d s h) n p
+
+-- sides of as many parts are the same side twice
+pub tree-twice : (k : Parts) (d : ℕ) (s : List ℕ) (n few p b : ℕ) (out : List ℕ) → few ≡ btree-split-index n → (n ≡ 0 → ⊥) → (n ≡ 1 → ⊥) → b ≡ joint-of k → all-same k ≡ true → few ≡ n - few → Room (balanced k d s n p) out
+    → Fork b (type-records (balanced k d s few p)) (type-records (balanced k d s few p)) (type-records (balanced k d s n p)) out
+tree-twice k d s n few p b out e z o j h m r = subst (λ i. Fork b (type-records (balanced k d s few p)) (type-records (balanced k d s i p)) (type-records (balanced k d s n p)) out) (sym m) (tree-fork k d s n few p p b out e z o j (sym (skip-same k d s few p h)) r)
 
 -- all copies of what stands at p
 pub copies : (d : ℕ) (s : List ℕ) (n p : ℕ) → balanced Copies d s n p ≡ productOf (replicate n (standing d s p))

@@ -6,13 +6,11 @@ use Prim.Native.Nat.{ℕ, zero, suc, _+_, _≤_, _<_}
 use native.Mathlib.Omega.{arith}
 use lib.ListN.{length, getD}
 use borrow.Author.Tests.{ltb-false}
-use Rattle.model.specs.Numbers.{never-stands, too-large, most-shape-records}
-use Rattle.model.specs.Outcome.{done, refuse, _>>_}
+use Rattle.model.specs.Numbers.{most-shape-records}
 use Rattle.model.specs.Structural.{SType}
 use Rattle.model.specs.Frames.{width}
-use Rattle.model.specs.Lowering.{has-never, over-large}
-use Rattle.model.specs.Operations.{lowering}
-use Rattle.model.specs.Laws.Outcome.{refuse-step}
+use Rattle.model.specs.Lowering.{over-large}
+use Rattle.model.specs.Laws.Lowering.{lowers-not-large}
 use Rattle.model.specs.Laws.Sizes.{nodes, width-nodes}
 use Rattle.types.specs.declared.TypeAnswer.{TypeAnswer}
 use Rattle.types.specs.declared.TypeAnswer.the-variants.{Ok}
@@ -23,7 +21,6 @@ use Rattle.types.specs.Lows.{low}
 use Rattle.types.specs.Record.{recAt}
 use Rattle.types.specs.Accepted.{ends-whole, few}
 use Rattle.types.specs.Unique.{inside}
-use Rattle.types.specs.Model.{accepted-tree}
 use Rattle.table.specs.Facts.{cut}
 use Rattle.table.specs.Flags.{flagged}
 use Rattle.table.specs.Lowering.{largeAt, large-flagged}
@@ -67,17 +64,9 @@ module _ {s E S W : List ℕ} {r : TypeAnswer} {n : ℕ} (p : Tabled s r E S W) 
   table : Table s E S W n
   table = subst (λ (r : TypeAnswer). TableIf r s E S W) e (p .table)
 
-  lowers : lowering s ≡ done (tree 32 s 0)
-  lowers = rw (p .answer, e) refl
-
   -- row 7 does not hold
   not-large : over-large (tree 32 s 0) ≡ false
-  unfolding lowering
-  not-large =
-      let t = tree 32 s 0 in
-      let h : (refuse never-stands (has-never t) >> (refuse too-large (over-large t) >> done t)) ≡ done t = rw (accepted-tree s n (table .accepted)) at lowers in
-      let (_, g) = refuse-step never-stands (has-never t) (refuse too-large (over-large t) >> done t) t h in
-      refuse-step too-large (over-large t) (done t) t g .0
+  not-large = lowers-not-large s (tree 32 s 0) (rw (p .answer, e) refl)
 
   -- what the check of a type file leaves is what the writers of a frame ask
   pub tabled-wide : 1024 ≤ length W → Wide s E W

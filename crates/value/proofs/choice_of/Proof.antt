@@ -1,7 +1,6 @@
 use borrow.Author.Needs.{needs}
 use Rattle.value.specs.Arms.{pick-yes, pick-no, eq-yes, eq-no, starts-there}
 use Rattle.value.specs.Record.{choice-at}
-use native.Mathlib.Omega.{arith}
 use Rattle.value.proofs.choice_of.Statement.{statement}
 use Rattle.value.proofs.choice_of.Tie as tie
 
@@ -13,8 +12,8 @@ starts-with-requires c κs = search steps
 number-of-requires : tie.Need-number-of-requires
 number-of-requires c κs = search steps
 
-is-below-requires : tie.Need-is-below-requires
-is-below-requires c κs = (search steps, omega arith)
+is-zero-requires : tie.Need-is-zero-requires
+is-zero-requires c κs = search steps
 
 returns : tie.Need-returns
 unfolding choice-at
@@ -34,8 +33,8 @@ starts-with-requires-2 c κs = search steps
 number-of-requires-2 : tie.Need-number-of-requires-2
 number-of-requires-2 c κs = search steps
 
-is-below-requires-2 : tie.Need-is-below-requires-2
-is-below-requires-2 c κs = (search steps, omega arith)
+is-zero-requires-2 : tie.Need-is-zero-requires-2
+is-zero-requires-2 c κs = search steps
 
 returns-4 : tie.Need-returns-4
 unfolding choice-at
@@ -59,13 +58,13 @@ choice-of-spec =
     (tie.spec
     starts-with-requires
     number-of-requires
-    is-below-requires
+    is-zero-requires
     returns
     returns-2
     returns-3
     starts-with-requires-2
     number-of-requires-2
-    is-below-requires-2
+    is-zero-requires-2
     returns-4
     returns-5
     returns-6

@@ -1,7 +1,6 @@
 use borrow.Author.Needs.{needs}
 use Rattle.value.specs.Arms.{pick-yes, pick-no, starts-there}
 use Rattle.value.specs.Record.{count-at}
-use native.Mathlib.Omega.{arith}
 use Rattle.value.proofs.count_of.Statement.{statement}
 use Rattle.value.proofs.count_of.Tie as tie
 
@@ -10,8 +9,8 @@ ruleset steps = (pick-yes, pick-no, starts-there, needs)
 starts-with-requires : tie.Need-starts-with-requires
 starts-with-requires c κs = search steps
 
-is-below-requires : tie.Need-is-below-requires
-is-below-requires c κs = (search steps, omega arith)
+is-zero-requires : tie.Need-is-zero-requires
+is-zero-requires c κs = search steps
 
 number-of-requires : tie.Need-number-of-requires
 number-of-requires c κs = search steps
@@ -33,7 +32,7 @@ count-of-spec =
     tie.close
     (tie.spec
     starts-with-requires
-    is-below-requires
+    is-zero-requires
     number-of-requires
     returns
     returns-2

@@ -1,0 +1,286 @@
+//! Cases written by hand with the results that 01 names, and the smallest inputs of its rows.
+
+use crate::case::Case;
+use crate::expect::Entry::{self, *};
+use crate::expect::Outcome;
+
+/// A case and its result with this buffer.
+pub struct Edge {
+    pub name: &'static str,
+    pub case: Case,
+    pub expected: Outcome,
+}
+
+/// Records of a type file: kind and n.
+fn ty(records: &[(u8, u16)]) -> Vec<u8> {
+    records.iter().flat_map(|&(kind, n)| [kind, 0, (n >> 8) as u8, n as u8]).collect()
+}
+
+/// Records of a value file: kind, choice, n and a small integer.
+fn val(records: &[(u8, u8, u16, u8)]) -> Vec<u8> {
+    let mut out = vec![];
+    for &(kind, choice, n, integer) in records {
+        out.extend([kind, choice, (n >> 8) as u8, n as u8]);
+        out.extend([0; 31]);
+        out.push(integer);
+    }
+    out
+}
+
+/// A digit a record.
+fn digits(text: &str) -> Vec<u8> {
+    text.bytes().filter(|b| *b != b' ').map(|b| b - b'0').collect()
+}
+
+fn steps(all: &[u16]) -> Vec<u8> {
+    all.iter().flat_map(|s| s.to_be_bytes()).collect()
+}
+
+struct Edges(Vec<Edge>);
+
+impl Edges {
+    fn put(&mut self, name: &'static str, entry: Entry, args: &[&[u8]], room: usize, expected: Outcome) {
+        let args = args.iter().map(|a| a.to_vec()).collect();
+        let case = Case { entry, args, room, fill: 0xa5, plain_fill: true };
+        self.0.push(Edge { name, case, expected });
+    }
+
+    /// Accepted with an exact buffer, and with two bytes more; refused with one byte less.
+    fn good(&mut self, name: &'static str, entry: Entry, args: &[&[u8]], result: &[u8]) {
+        self.put(name, entry, args, result.len(), Ok(result.to_vec()));
+        if entry == PartEdit || result.len() > 2_000 {
+            return;
+        }
+        self.put(name, entry, args, result.len() + 2, Ok(result.to_vec()));
+        if !result.is_empty() {
+            self.put(name, entry, args, result.len() - 1, Err(17));
+        }
+    }
+
+    fn bad(&mut self, name: &'static str, entry: Entry, args: &[&[u8]], number: u32) {
+        self.put(name, entry, args, 40, Err(number));
+    }
+}
+
+const LIST: [(u8, u16); 2] = [(7, 4), (2, 1)];
+const PAIR: [(u8, u16); 4] = [(5, 2), (2, 4), (7, 4), (2, 1)];
+const CHOICE: [(u8, u16); 3] = [(3, 0), (2, 4), (1, 0)];
+const VARIANTS: [(u8, u16); 7] = [(8, 3), (9, 0), (9, 1), (2, 1), (9, 2), (2, 1), (1, 0)];
+const UNIT: (u8, u16) = (5, 0);
+
+fn bits(all: &[u8]) -> Vec<(u8, u8, u16, u8)> {
+    all.iter().map(|&b| (2, 0, 1, b)).collect()
+}
+
+fn list(all: &[u8]) -> Vec<(u8, u8, u16, u8)> {
+    [vec![(7, 0, all.len() as u16, 0)], bits(all)].concat()
+}
+
+/// (9, list) as a value of PAIR.
+fn pair(all: &[u8]) -> Vec<u8> {
+    val(&[vec![(5, 0, 2, 0), (2, 0, 4, 9)], list(all)].concat())
+}
+
+/// All cases of 'Along the edges', and the program `job`'s.
+fn along_the_edges(e: &mut Edges) {
+    let units = [
+        "200",
+        "20200",
+        "2200200",
+        "202200200",
+        "22002200200",
+        "2202002200200",
+        "222002002200200",
+        "20222002002200200",
+    ];
+    for (i, lowered) in units.iter().enumerate() {
+        e.good("split", Lower, &[&ty(&[(6, i as u16 + 2), UNIT])], &digits(lowered));
+    }
+    e.good("lowered ()", Lower, &[&ty(&[UNIT])], &digits("0"));
+    e.good("u2", Lower, &[&ty(&[(2, 2)])], &digits("2100100"));
+    e.good("three Booleans", Lower, &[&ty(&[(5, 3), (1, 0), (1, 0), (1, 0)])], &digits("21002100100"));
+    e.good("list of u1 bound 4", Lower, &[&ty(&LIST)], &digits("210210010010100"));
+    let shapes: [(&[u8], &str); 4] =
+        [(&[], "31010"), (&[1], "310220"), (&[1, 0], "323201010"), (&[1, 0, 1], "3232010220")];
+    for (all, shape) in shapes {
+        e.good("that list", WriteShape, &[&ty(&LIST), &val(&list(all))], &digits(shape));
+        e.good("that list back", Reconstruct, &[&ty(&LIST), &digits(shape)], &val(&list(all)));
+    }
+    for entry in [WriteShape, WriteFrame] {
+        e.bad("four elements", entry, &[&ty(&LIST), &val(&list(&[1, 0, 1, 1]))], 16);
+        e.bad("a u1 holding 2", entry, &[&ty(&[(2, 1)]), &val(&bits(&[2]))], 16);
+        e.bad("writing a none of Never", entry, &[&ty(&[(4, 0), (0, 0)]), &val(&[(4, 0, 0, 0)])], 6);
+    }
+    let variants: [(&[(u8, u8, u16, u8)], &str); 3] = [
+        (&[(8, 0, 0, 0)], "10"),
+        (&[(8, 0, 1, 0), (2, 0, 1, 1)], "2120"),
+        (&[(8, 0, 2, 0), (2, 0, 1, 1), (1, 0, 0, 0)], "2232010"),
+    ];
+    for (value, shape) in variants {
+        e.good("variants", WriteShape, &[&ty(&VARIANTS), &val(value)], &digits(shape));
+        e.good("variants back", Reconstruct, &[&ty(&VARIANTS), &digits(shape)], &val(value));
+    }
+    let right = val(&[(3, 1, 0, 0), (1, 1, 0, 0)]);
+    let left = val(&[(3, 0, 0, 0), (2, 0, 4, 9)]);
+    for (value, frame) in [(&right, [0xc0]), (&left, [0x48])] {
+        e.good("either u4 or bool", WriteFrame, &[&ty(&CHOICE), value], &frame);
+        e.good("either u4 or bool back", ReadFrame, &[&ty(&CHOICE), &frame], value);
+    }
+    e.good("300 as ()", Reconstruct, &[&ty(&[UNIT]), &digits("300")], &val(&[(5, 0, 0, 0)]));
+    e.bad("1300 as Option bool", Reconstruct, &[&ty(&[(4, 0), (1, 0)]), &digits("1300")], 10);
+    e.good("10 as Option Never", Reconstruct, &[&ty(&[(4, 0), (0, 0)]), &digits("10")], &val(&[(4, 0, 0, 0)]));
+    e.bad("an array of 32,769 units", Lower, &[&ty(&[(6, 32_769), UNIT])], 7);
+    let options = |n: usize| ty(&[vec![(4, 0); n], vec![(1, 0)]].concat());
+    e.good("31 Options", Lower, &[&options(31)], &digits(&format!("{}100", "10".repeat(31))));
+    e.bad("32 Options", Lower, &[&options(32)], 4);
+    let whole = ty(&PAIR);
+    e.good("job's type", Lower, &[&whole], &digits("2221001002100100210210010010100"));
+    e.good("job's shape", WriteShape, &[&whole, &pair(&[1])], &digits("333201031020310220"));
+    e.good("job's frame", WriteFrame, &[&whole, &pair(&[1])], &[0x91, 0x80]);
+    e.good("job's frame back", ReadFrame, &[&whole, &[0x91, 0x80]], &pair(&[1]));
+    let six = val(&[(2, 0, 4, 6)]);
+    e.good("part 0 to 6", PartEdit, &[&whole, &[0x91, 0x80], &steps(&[0]), &six], &[0x61, 0x80]);
+    let three = val(&list(&[1, 0, 1]));
+    e.good("part 1 to [1, 0, 1]", PartEdit, &[&whole, &[0x91, 0x80], &steps(&[1]), &three], &[0x9d, 0x80]);
+    e.good("the whole", PartEdit, &[&whole, &[0x91, 0x80], &[], &pair(&[1, 0, 1])], &[0x9d, 0x80]);
+    e.good("part 1", PartRead, &[&whole, &[0x91, 0x80], &steps(&[1])], &val(&list(&[1])));
+    e.good("part 1, 0", PartRead, &[&whole, &[0x91, 0x80], &steps(&[1, 0])], &val(&bits(&[1])));
+    e.good("the whole", PartRead, &[&whole, &[0x91, 0x80], &[]], &pair(&[1]));
+    e.bad("path 1, 1", PartRead, &[&whole, &[0x91, 0x80], &steps(&[1, 1])], 14);
+    e.bad("path 1, 1", PartEdit, &[&whole, &[0x91, 0x80], &steps(&[1, 1]), &val(&bits(&[1]))], 14);
+}
+
+/// The smallest inputs of the type rows, and rows that meet.
+fn type_rows(e: &mut Edges) {
+    let deep = |last: &[u8]| [ty(&[(4, 0); 32]), last.to_vec()].concat();
+    let types: [(&'static str, Vec<u8>, u32); 29] = [
+        ("empty", vec![], 1),
+        ("three bytes", vec![1, 0, 0], 1),
+        ("five bytes", vec![1, 0, 0, 0, 0], 1),
+        ("kind 10", ty(&[(10, 0)]), 3),
+        ("byte 1", vec![1, 1, 0, 0], 3),
+        ("Boolean with n", ty(&[(1, 1)]), 3),
+        ("Never with n", ty(&[(0, 1)]), 3),
+        ("u0", ty(&[(2, 0)]), 3),
+        ("u3", ty(&[(2, 3)]), 3),
+        ("u512", ty(&[(2, 512)]), 3),
+        ("Either with n", ty(&[(3, 1), (1, 0), (1, 0)]), 3),
+        ("Option with n", ty(&[(4, 256), (1, 0)]), 3),
+        ("list bound 0", ty(&[(7, 0), (1, 0)]), 3),
+        ("list bound 1", ty(&[(7, 1), (1, 0)]), 3),
+        ("list bound 6", ty(&[(7, 6), (1, 0)]), 3),
+        ("enum of none", ty(&[(8, 0)]), 3),
+        ("a Variant at the root", ty(&[(9, 0)]), 3),
+        ("a Variant in a tuple", ty(&[(5, 1), (9, 0)]), 3),
+        ("a type for a Variant", ty(&[(8, 1), (1, 0)]), 3),
+        ("bad and too deep", deep(&ty(&[(10, 0)])), 3),
+        ("missing and too deep", deep(&[]), 5),
+        ("too deep and left over", deep(&ty(&[(1, 0), (1, 0)])), 4),
+        ("missing", ty(&[(4, 0)]), 5),
+        ("left over", ty(&[(1, 0), (1, 0)]), 5),
+        ("a bad one left over", ty(&[(1, 0), (10, 0)]), 5),
+        ("Never", ty(&[(0, 0)]), 6),
+        ("Never in an array of 0", ty(&[(6, 0), (0, 0)]), 6),
+        ("too large in an array of 0", ty(&[(6, 0), (6, 32_769), UNIT]), 7),
+        ("too large and Never", ty(&[(5, 2), (6, 32_769), UNIT, (0, 0)]), 6),
+    ];
+    for (name, file, number) in types {
+        e.bad(name, Lower, &[&file], number);
+        for entry in [WriteShape, WriteFrame, ReadFrame] {
+            e.bad(name, entry, &[&file, &[]], number);
+        }
+        e.bad(name, PartRead, &[&file, &[], &[]], number);
+        e.bad(name, PartEdit, &[&file, &[], &[0], &[]], number);
+        if number < 6 {
+            e.bad(name, Reconstruct, &[&file, &[]], number);
+        }
+    }
+    e.good("enum of one", Lower, &[&ty(&[(8, 1), (9, 1), (1, 0)])], &digits("100"));
+    e.good("list bound 2", Lower, &[&ty(&[(7, 2), (1, 0)])], &digits("10100"));
+    e.good("array of 0", Lower, &[&ty(&[(6, 0), (1, 0)])], &digits("0"));
+}
+
+/// The smallest inputs of the other rows, and rows that meet.
+fn other_rows(e: &mut Edges) {
+    let u4 = ty(&[(2, 4)]);
+    for shape in ["", "4", "00", "3", "1", "30", "3000"] {
+        e.bad("not one tree", Reconstruct, &[&u4, &digits(shape)], 9);
+    }
+    e.bad("u2 with 3100", Reconstruct, &[&ty(&[(2, 2)]), &digits("3100")], 10);
+    e.bad("Never", Reconstruct, &[&ty(&[(0, 0)]), &digits("0")], 10);
+    e.bad("Never is reached", Reconstruct, &[&ty(&[(4, 0), (0, 0)]), &digits("20")], 10);
+    let one = ty(&[(8, 1), (9, 1), (1, 0)]);
+    e.good("enum of one", WriteShape, &[&one, &val(&[(8, 0, 0, 0), (1, 1, 0, 0)])], &digits("20"));
+    let incident = ty(&[(7, 8), (2, 1)]);
+    let four = val(&list(&[1, 0, 1, 1]));
+    e.good("four of a bound 8", WriteShape, &[&incident, &four], &digits("3233201032020 31010"));
+    e.good("four of a bound 8", WriteFrame, &[&incident, &four], &[0xd8, 0x00]);
+    e.good("four of a bound 8", ReadFrame, &[&incident, &[0xd8, 0x00]], &four);
+    for (frame, number) in [(&[][..], 11), (&[0x90, 0][..], 11), (&[0x98][..], 12)] {
+        e.bad("frame", ReadFrame, &[&u4, frame], number);
+        e.bad("frame", PartRead, &[&u4, frame, &[0]], number);
+        e.bad("frame", PartEdit, &[&u4, frame, &[0], &[]], number);
+    }
+    e.bad("padding", ReadFrame, &[&ty(&CHOICE), &[0xc8]], 12);
+    e.bad("odd path", PartRead, &[&u4, &[0x90], &[0]], 13);
+    e.bad("odd path", PartEdit, &[&u4, &[0x90], &[0], &[]], 13);
+    e.bad("no such part", PartRead, &[&u4, &[0x90], &steps(&[0])], 14);
+    e.bad("no such part", PartEdit, &[&u4, &[0x90], &steps(&[0]), &[]], 14);
+    e.bad("the other side", PartRead, &[&ty(&CHOICE), &[0xc0], &steps(&[0])], 14);
+    e.good("the side taken", PartRead, &[&ty(&CHOICE), &[0xc0], &steps(&[1])], &val(&[(1, 1, 0, 0)]));
+    for file in [vec![], vec![0; 35], vec![0; 37]] {
+        e.bad("value's length", WriteShape, &[&u4, &file], 15);
+        e.bad("value's length", WriteFrame, &[&u4, &file], 15);
+        e.bad("value's length", PartEdit, &[&u4, &[0x90], &[], &file], 15);
+    }
+    let values = [
+        val(&[(1, 0, 0, 0)]),
+        val(&[(2, 0, 4, 16)]),
+        val(&[(2, 1, 4, 1)]),
+        val(&[(2, 0, 8, 1)]),
+        val(&[(2, 0, 4, 1), (2, 0, 4, 1)]),
+    ];
+    for file in &values {
+        e.bad("not a u4", WriteShape, &[&u4, file], 16);
+        e.bad("not a u4", WriteFrame, &[&u4, file], 16);
+        e.bad("not a u4", PartEdit, &[&u4, &[0x90], &[], file], 16);
+    }
+    e.good("a part of width 0", PartEdit, &[&ty(&[UNIT]), &[], &[], &val(&[(5, 0, 0, 0)])], &[]);
+    e.good("a frame of no bytes", WriteFrame, &[&ty(&[UNIT]), &val(&[(5, 0, 0, 0)])], &[]);
+}
+
+/// Long arguments or results; they stand at the end of the recorded file.
+fn long_ones(e: &mut Edges) {
+    let over = ty(&[(1, 0); 1_025]);
+    e.bad("1,025 records", Lower, &[&over], 2);
+    for entry in [WriteShape, WriteFrame, ReadFrame] {
+        e.bad("1,025 records", entry, &[&over, &[]], 2);
+    }
+    e.bad("1,025 records", PartRead, &[&over, &[], &[]], 2);
+    e.bad("1,025 records", PartEdit, &[&over, &[], &[0], &[]], 2);
+    e.bad("1,025 records, the first bad", Reconstruct, &[&ty(&[(10, 0); 1_025]), &[]], 2);
+    let many = [vec![(5, 1_023)], vec![UNIT; 1_023]].concat();
+    let units = val(&[(5, 0, 0, 0)]);
+    e.bad("1,024 records", WriteShape, &[&ty(&many), &units], 16);
+    let lefts = |n: usize| [vec![1; n - 1], vec![0]].concat();
+    e.good("65,536 records under ()", Reconstruct, &[&ty(&[UNIT]), &lefts(65_536)], &units);
+    e.bad("65,537 records", Reconstruct, &[&ty(&[UNIT]), &lefts(65_537)], 8);
+    let mut level = digits("0");
+    for _ in 0..15 {
+        level = [digits("2"), level.clone(), level].concat();
+    }
+    let array = ty(&[(6, 32_768), UNIT]);
+    e.good("an array of 32,768 units", Lower, &[&array], &level);
+    e.put("an array of 32,768 units, one byte short", Lower, &[&array], 65_534, Err(17));
+}
+
+/// The short ones, then the long ones.
+pub fn edges() -> (Vec<Edge>, Vec<Edge>) {
+    let mut short = Edges(vec![]);
+    along_the_edges(&mut short);
+    type_rows(&mut short);
+    other_rows(&mut short);
+    let mut long = Edges(vec![]);
+    long_ones(&mut long);
+    (short.0, long.0)
+}

@@ -1,0 +1,149 @@
+//! All cases of small size: every type file of few records from a menu, every shape of few records, and what follows.
+
+use std::collections::BTreeSet;
+
+use crate::case::Case;
+use crate::compare::Tally;
+use crate::expect::{Entry, Outcome};
+use crate::paths::follow;
+use crate::types::{check_lowering, read_type, Ty};
+use crate::values::{read_value, reconstruct, write_value};
+
+/// The records of the types: kind and n.
+#[rustfmt::skip]
+const MENU: [(u8, u8); 21] = [
+    (0, 0), (1, 0), (2, 1), (2, 2), (2, 4), (3, 0), (4, 0), (5, 0), (5, 1), (5, 2), (5, 3),
+    (6, 0), (6, 1), (6, 2), (6, 3), (7, 2), (7, 4), (8, 1), (8, 2), (9, 0), (9, 1),
+];
+
+/// Frames, values and paths of one type are tried up to these counts.
+const MOST_FRAMES: usize = 300;
+const MOST_NEW: usize = 12;
+
+/// All trees of exactly n records, for each n up to `most`.
+fn trees(most: usize) -> Vec<Vec<Vec<u8>>> {
+    let mut by_size: Vec<Vec<Vec<u8>>> = vec![vec![], vec![vec![0]]];
+    for n in 2..=most {
+        let mut all = vec![];
+        for kind in [1, 2] {
+            all.extend(by_size[n - 1].iter().map(|t| [&[kind], &t[..]].concat()));
+        }
+        for left in 1..n - 1 {
+            for l in &by_size[left] {
+                all.extend(by_size[n - 1 - left].iter().map(|r| [&[3], &l[..], &r[..]].concat()));
+            }
+        }
+        by_size.push(all);
+    }
+    by_size
+}
+
+struct Run {
+    tally: Tally,
+    count: usize,
+}
+
+impl Run {
+    /// Runs a case with an exact buffer; every third one is a byte short, every fifth has room.
+    fn case(&mut self, entry: Entry, args: &[&[u8]]) -> Option<Outcome> {
+        self.count += 1;
+        let count = self.count;
+        let args = args.iter().map(|a| a.to_vec()).collect();
+        let mut case = Case { entry, args, room: 0, fill: count as u8, plain_fill: false };
+        let room = |outcome: &Outcome| match outcome {
+            Ok(result) if count % 3 == 0 => result.len().saturating_sub(1),
+            Ok(result) if count % 5 == 0 => result.len() + 3,
+            Ok(result) => result.len(),
+            Err(_) => count % 7,
+        };
+        self.tally.run(&mut case, room, None)
+    }
+
+    /// All that can be tried of one sound type.
+    fn sound_type(&mut self, file: &[u8], ty: &Ty, shapes: &[Vec<u8>]) {
+        let mut values = BTreeSet::new();
+        for shape in shapes {
+            if let Some(Ok(value)) = self.case(Entry::Reconstruct, &[file, shape]) {
+                values.insert(value);
+            }
+        }
+        if check_lowering(ty).is_err() {
+            return;
+        }
+        let mut frames = BTreeSet::new();
+        for value in &values {
+            self.case(Entry::WriteShape, &[file, value]);
+            if let Some(Ok(frame)) = self.case(Entry::WriteFrame, &[file, value]) {
+                frames.insert(frame);
+            }
+        }
+        for frame in all_frames(&frames) {
+            if let Some(Ok(value)) = self.case(Entry::ReadFrame, &[file, &frame]) {
+                self.parts(file, ty, &frame, &value, shapes);
+            }
+        }
+    }
+
+    /// All paths of up to two steps, and values of the part's type.
+    fn parts(&mut self, file: &[u8], ty: &Ty, frame: &[u8], value: &[u8], shapes: &[Vec<u8>]) {
+        let whole = read_value(ty, value).expect("the frame was read");
+        for path in all_paths() {
+            self.case(Entry::PartRead, &[file, frame, &path]);
+            let new: Vec<Vec<u8>> = match follow(ty, &whole, &path) {
+                Ok(part) => {
+                    let all = shapes.iter().filter_map(|s| reconstruct(part.ty, s));
+                    all.take(MOST_NEW).map(|v| write_value(&v)).chain([value.to_vec()]).collect()
+                }
+                Err(_) => vec![value.to_vec()],
+            };
+            for new in new {
+                self.case(Entry::PartEdit, &[file, frame, &path, &new]);
+            }
+        }
+    }
+}
+
+fn all_paths() -> Vec<Vec<u8>> {
+    let mut all = vec![vec![], vec![0], vec![0, 0, 0]];
+    for first in 0..3 {
+        all.push(vec![0, first]);
+        all.extend((0..3).map(|second| vec![0, first, 0, second]));
+    }
+    all
+}
+
+/// The frames, all of one byte if they are that long, and those with one bit flipped or another length.
+fn all_frames(frames: &BTreeSet<Vec<u8>>) -> BTreeSet<Vec<u8>> {
+    let mut all = frames.clone();
+    if frames.iter().any(|f| f.len() == 1) {
+        all.extend((0..=255).map(|b| vec![b]));
+    }
+    for frame in frames {
+        for bit in 0..frame.len() * 8 {
+            let mut flipped = frame.clone();
+            flipped[bit / 8] ^= 0x80 >> (bit % 8);
+            all.insert(flipped);
+        }
+        all.insert([&frame[..], &[0]].concat());
+        all.insert(frame[..frame.len().saturating_sub(1)].to_vec());
+    }
+    all.into_iter().take(MOST_FRAMES).collect()
+}
+
+/// Runs every type file of up to so many records with every shape of up to so many; true if nothing differs.
+pub fn exhaust(records: usize, nodes: usize) -> bool {
+    let shapes = trees(nodes).concat();
+    let mut run = Run { tally: Tally::default(), count: 0 };
+    let mut files: Vec<Vec<u8>> = vec![vec![]];
+    for _ in 0..records {
+        let longer = files.iter().flat_map(|f| MENU.map(|(kind, n)| [&f[..], &[kind, 0, 0, n]].concat()));
+        files = longer.collect();
+        for file in &files {
+            run.case(Entry::Lower, &[file]);
+            if let Ok(ty) = read_type(file) {
+                run.sound_type(file, &ty, &shapes);
+            }
+        }
+    }
+    run.tally.finish()
+}

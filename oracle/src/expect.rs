@@ -1,0 +1,143 @@
+//! What each entry answers: the rows in 01's order, the published code where it decides, the second writer for frames.
+
+use crate::frames::{self, Lowered};
+use crate::paths::{self, follow, Part};
+use crate::rust;
+use crate::types::{self, check_lowering, read_type, Ty};
+use crate::values::{self, check_shape, read_value, write_value, Val};
+
+/// The entries, in the order of the C header. Recorded cases use these numbers.
+#[derive(Clone, Copy, Debug, PartialEq)]
+pub enum Entry {
+    Lower = 1,
+    WriteShape = 2,
+    Reconstruct = 3,
+    WriteFrame = 4,
+    ReadFrame = 5,
+    PartRead = 6,
+    PartEdit = 7,
+}
+
+pub const ENTRIES: [Entry; 7] = [
+    Entry::Lower,
+    Entry::WriteShape,
+    Entry::Reconstruct,
+    Entry::WriteFrame,
+    Entry::ReadFrame,
+    Entry::PartRead,
+    Entry::PartEdit,
+];
+
+impl Entry {
+    pub fn name(self) -> &'static str {
+        ["lower", "write_shape", "reconstruct", "write_frame", "read_frame", "part_read", "part_edit"]
+            [self as usize - 1]
+    }
+
+    /// The names of the arguments, without the buffer.
+    pub fn arguments(self) -> &'static [&'static str] {
+        match self {
+            Entry::Lower => &["type"],
+            Entry::WriteShape | Entry::WriteFrame => &["type", "value"],
+            Entry::Reconstruct => &["type", "shape"],
+            Entry::ReadFrame => &["type", "frame"],
+            Entry::PartRead => &["type", "frame", "path"],
+            Entry::PartEdit => &["type", "frame", "path", "value"],
+        }
+    }
+}
+
+/// A result, or the number of the row that refuses.
+pub type Outcome = Result<Vec<u8>, u32>;
+
+/// What an entry answers with a buffer that is long enough.
+/// It panics where the published code and the plain one differ.
+pub fn outcome(entry: Entry, args: &[Vec<u8>]) -> Outcome {
+    let ty = read_type(&args[0])?;
+    if entry == Entry::Reconstruct {
+        check_shape(&args[1])?;
+        return reconstructed(&ty, &args[1]).map(|val| write_value(&val)).ok_or(10);
+    }
+    check_lowering(&ty)?;
+    match entry {
+        Entry::Lower => Ok(lowered(&ty)),
+        Entry::WriteShape => Ok(shaped(&ty, &read_value(&ty, &args[1])?)),
+        Entry::WriteFrame => Ok(framed(&ty, &read_value(&ty, &args[1])?)),
+        Entry::ReadFrame => Ok(write_value(&unframed(&ty, &args[1])?)),
+        Entry::PartRead => part_read(&ty, &args[1], &args[2]),
+        _ => part_edit(&ty, &args[1], &args[2], &args[3]),
+    }
+}
+
+/// The lowered type, told by the published code.
+pub fn lowered(ty: &Ty) -> Vec<u8> {
+    let told = rust::lower(ty);
+    assert!(told == types::lower(ty), "lowered types differ");
+    assert!(told.len() as u64 == types::size(ty), "sizes differ");
+    told
+}
+
+/// The shape, told by the published code.
+pub fn shaped(ty: &Ty, val: &Val) -> Vec<u8> {
+    let told = rust::shape(ty, val);
+    assert!(told == values::shape(ty, val), "shapes differ");
+    told
+}
+
+/// The value of a shape, told by the published code.
+pub fn reconstructed(ty: &Ty, shape: &[u8]) -> Option<Val> {
+    let told = rust::reconstruct(ty, shape);
+    let plain = values::reconstruct(ty, shape);
+    assert!(told == plain.as_ref().map(write_value), "reconstructed values differ");
+    plain
+}
+
+/// The frame, told by the second writer from the published lowered type and shape.
+pub fn framed(ty: &Ty, val: &Val) -> Vec<u8> {
+    let records = lowered(ty);
+    let frame = frames::write(&Lowered::new(&records), &shaped(ty, val));
+    assert!(frame.len() <= 4096, "frame too long");
+    frame
+}
+
+/// The value of a frame, told by the second reader and the published `reconstruct`.
+pub fn unframed(ty: &Ty, frame: &[u8]) -> Result<Val, u32> {
+    let records = lowered(ty);
+    let shape = frames::read(&Lowered::new(&records), frame)?;
+    Ok(reconstructed(ty, &shape).expect("a frame's shape belongs to its type"))
+}
+
+/// The file of a part: its records in the file of the whole.
+fn part_read(ty: &Ty, frame: &[u8], path: &[u8]) -> Outcome {
+    let old = unframed(ty, frame)?;
+    let part = follow(ty, &old, path)?;
+    let file = &write_value(&old)[stretch_of_file(&part)];
+    assert!(file == write_value(part.val), "part files differ");
+    Ok(file.to_vec())
+}
+
+fn stretch_of_file(part: &Part) -> std::ops::Range<usize> {
+    part.record * 36..(part.record + part.val.records()) * 36
+}
+
+/// The frame of the value whose part is replaced, record for record.
+fn part_edit(ty: &Ty, frame: &[u8], path: &[u8], new: &[u8]) -> Outcome {
+    let old = unframed(ty, frame)?;
+    let part = follow(ty, &old, path)?;
+    let new_val = read_value(part.ty, new)?;
+    let mut file = write_value(&old);
+    file.splice(stretch_of_file(&part), new.iter().copied());
+    let whole = read_value(ty, &file).expect("the replaced file is a value of the type");
+    let edited = framed(ty, &whole);
+    check_stretch(&part, frame, &edited, &framed(part.ty, &new_val));
+    Ok(edited)
+}
+
+/// No bit outside the part's stretch changes, and the stretch is the part's own frame.
+fn check_stretch(part: &Part, before: &[u8], after: &[u8], own: &[u8]) {
+    let end = part.bit + paths::width(part.ty);
+    for i in 0..before.len() * 8 {
+        let right = if i < part.bit || i >= end { frames::bit(before, i) } else { frames::bit(own, i - part.bit) };
+        assert!(frames::bit(after, i) == right, "bit {i} of an edited frame");
+    }
+}

@@ -1,0 +1,94 @@
+//! Stands in for a faulty library, to see that the comparison finds each fault and shrinks it.
+
+use std::sync::atomic::{AtomicUsize, Ordering};
+
+use crate::case::{Answer, Case};
+use crate::expect::{outcome, Entry, Outcome};
+use crate::types::{read_type, write_type, Ty};
+use crate::values::{read_value, write_value, Val};
+
+pub const FAULTS: [&str; 12] = [
+    "no fault",
+    "an exact buffer is too short",
+    "a length is one too long",
+    "a refusal clears the buffer",
+    "a result clears the bytes past its end",
+    "a list is written without the elements after its first block",
+    "an edit does nothing",
+    "an edit follows only the first step",
+    "reconstruction refuses a Never that it does not reach",
+    "the depth is checked one level too late",
+    "a row of the value comes before the frame's",
+    "the last bit of a frame is lost",
+];
+
+/// The fault at work; the first one is none.
+pub static FAULT: AtomicUsize = AtomicUsize::new(0);
+
+pub fn at_work() -> bool {
+    FAULT.load(Ordering::Relaxed) > 0
+}
+
+/// The answer of a library with this fault.
+pub fn answer(case: &Case) -> Answer {
+    let fault = FAULT.load(Ordering::Relaxed);
+    let right = outcome(case.entry, &case.args);
+    let mut answer = case.delivered(right.clone());
+    match fault {
+        1 if answer.number == 0 && answer.length == case.room && case.entry != Entry::PartEdit => {
+            case.delivered(Err(17))
+        }
+        2 if answer.length > 2 => Answer { length: answer.length + 1, ..answer },
+        3 if answer.number > 13 => {
+            answer.lent.fill(0);
+            answer
+        }
+        4 if answer.number == 0 => {
+            answer.lent[answer.length..].fill(0);
+            answer
+        }
+        5 if case.entry == Entry::WriteShape => case.delivered(blanked(case).unwrap_or(right)),
+        6 if case.entry == Entry::PartEdit => case.delivered(right.map(|_| case.args[1].clone())),
+        7 if case.entry == Entry::PartEdit && case.args[2].len() > 2 && right.is_ok() => {
+            let mut args = case.args.clone();
+            args[2].truncate(2);
+            case.delivered(outcome(case.entry, &args))
+        }
+        8 if case.entry == Entry::Reconstruct && right.is_ok() && outcome(Entry::Lower, &case.args) == Err(6) => {
+            case.delivered(Err(10))
+        }
+        9 if right == Err(4) => case.delivered(outcome(case.entry, &raised(case)).or(Err(5))),
+        10 if case.entry == Entry::PartEdit && right == Err(12) && case.args[3].len() % 36 != 0 => {
+            case.delivered(Err(15))
+        }
+        11 if case.entry == Entry::WriteFrame && right.as_ref().is_ok_and(|frame| frame.len() > 1) => {
+            let mut frame = right.unwrap();
+            *frame.last_mut().unwrap() &= 0xfe;
+            case.delivered(Ok(frame))
+        }
+        _ => answer,
+    }
+}
+
+/// The shape of the value without the elements after each list's first block.
+fn blanked(case: &Case) -> Option<Outcome> {
+    let ty = read_type(&case.args[0]).ok()?;
+    let val = read_value(&ty, &case.args[1]).ok()?;
+    let args = [write_type(&ty), write_value(&blank(&ty, &val))];
+    Some(outcome(Entry::WriteShape, &args))
+}
+
+fn blank(ty: &Ty, val: &Val) -> Val {
+    match (ty, val) {
+        (Ty::List(bound, _), Val::List(all)) if all.len() > bound / 2 => Val::List(all[..bound / 2].to_vec()),
+        (Ty::Tuple(types), Val::Tuple(all)) => Val::Tuple(types.iter().zip(all).map(|(t, v)| blank(t, v)).collect()),
+        _ => val.clone(),
+    }
+}
+
+/// The type without its first record, so that each other one stands a level higher.
+fn raised(case: &Case) -> Vec<Vec<u8>> {
+    let mut args = case.args.clone();
+    args[0].drain(..4);
+    args
+}

@@ -1,0 +1,54 @@
+//! Compares the library with the published code and a second frame writer. See README.md.
+
+mod case;
+mod compare;
+mod edges;
+mod exhaust;
+mod expect;
+mod faulty;
+mod frames;
+mod generate;
+mod giants;
+mod library;
+mod paths;
+mod random;
+mod record;
+mod rust;
+mod shrink;
+mod survey;
+mod types;
+mod values;
+
+/// A shape may be 65,536 deep, and trees are dropped level by level.
+const STACK: usize = 1 << 29;
+
+fn number(text: &str) -> u64 {
+    text.parse().unwrap_or_else(|_| panic!("not a number: {text}"))
+}
+
+fn run(args: &[&str]) -> bool {
+    match args {
+        ["compare", seed, count] => compare::compare(number(seed), number(count), None),
+        ["trace", seed, count, file] => compare::compare(number(seed), number(count), Some(file)),
+        ["exhaust", records, nodes] => exhaust::exhaust(number(records) as usize, number(nodes) as usize),
+        ["giants", seed] => giants::giants(number(seed)),
+        ["faults", seed, count] => compare::try_faults(number(seed), number(count)),
+        ["survey", seed, count] => survey::survey(number(seed), number(count)),
+        ["edges"] => record::check_edges(),
+        ["record", file, seed, count] => record::record(file, number(seed), number(count) as usize),
+        ["show", file] => record::show(file),
+        ["replay", file] => record::replay(file),
+        _ => {
+            eprintln!("usage: oracle compare SEED COUNT | trace SEED COUNT FILE | exhaust RECORDS NODES | giants SEED | faults SEED COUNT | survey SEED COUNT | edges | record FILE SEED COUNT | show FILE | replay FILE");
+            false
+        }
+    }
+}
+
+fn main() {
+    let args: Vec<String> = std::env::args().skip(1).collect();
+    let work = move || run(&args.iter().map(String::as_str).collect::<Vec<_>>());
+    let worker = std::thread::Builder::new().stack_size(STACK).spawn(work).expect("a thread starts");
+    let good = worker.join().unwrap_or(false);
+    std::process::exit(if good { 0 } else { 1 });
+}

@@ -1,0 +1,84 @@
+//! Counts what the random cases reach among the accepted ones.
+
+use std::collections::BTreeMap;
+
+use crate::case::Case;
+use crate::expect::{outcome, Entry};
+use crate::generate::{random_case, Scale};
+use crate::random::Random;
+use crate::types::{check_lowering, read_type, size, Ty};
+
+/// The deepest record; a Variant is a level of its own.
+fn depth(ty: &Ty) -> usize {
+    let most = |types: &[Ty]| types.iter().map(depth).max().unwrap_or(0);
+    match ty {
+        Ty::Never | Ty::Bool | Ty::UInt(_) => 1,
+        Ty::Either(l, r) => 1 + depth(l).max(depth(r)),
+        Ty::Option(t) | Ty::Array(_, t) | Ty::List(_, t) => 1 + depth(t),
+        Ty::Tuple(types) => 1 + most(types),
+        Ty::Enum(variants) => 2 + variants.iter().map(|parts| most(parts)).max().unwrap_or(0),
+    }
+}
+
+/// What a type file's records show.
+fn features_of_records(file: &[u8]) -> Vec<String> {
+    let mut all = vec![];
+    for record in file.chunks(4) {
+        let n = record[2] as usize * 256 + record[3] as usize;
+        match (record[0], n) {
+            (2, _) => all.push(format!("integer of {n:3} bits")),
+            (6, 0) => all.push("array of 0".into()),
+            (7, _) => all.push(format!("list bound {n:5}")),
+            (8, 1) => all.push("enum of one variant".into()),
+            (8, 90..) => all.push("enum of 90 variants or more".into()),
+            _ => {}
+        }
+    }
+    all
+}
+
+fn features(case: &Case, ty: &Ty, result: &[u8]) -> Vec<String> {
+    let mut all = features_of_records(&case.args[0]);
+    let mut put = |holds: bool, name: &str| {
+        if holds {
+            all.push(name.to_string());
+        }
+    };
+    put(depth(ty) == 32, "depth 32");
+    put(case.args[0].len() >= 4_000, "1,000 records or more");
+    put(case.args[0].len() == 4_096, "1,024 records");
+    match check_lowering(ty) {
+        Err(6) => put(true, "a Never that is not reached"),
+        Err(_) => put(true, "beyond row 7"),
+        Ok(()) => {
+            put(size(ty) > 30_000, "lowers to over 30,000");
+            put(size(ty) == 65_535, "lowers to 65,535");
+        }
+    }
+    if matches!(case.entry, Entry::PartRead | Entry::PartEdit) {
+        let steps = case.args[2].len() / 2;
+        put(true, &format!("path of {} steps", ["0", "1", "2", "3", "4 or more"][steps.min(4)]));
+    }
+    put(case.entry == Entry::PartEdit && result != case.args[1], "an edit that changes the frame");
+    put(case.entry == Entry::Reconstruct && case.args[1].len() > 65_000, "shape of over 65,000");
+    all
+}
+
+pub fn survey(seed: u64, count: u64) -> bool {
+    let mut r = Random::new(seed);
+    let mut reached: BTreeMap<String, u64> = BTreeMap::new();
+    for _ in 0..count {
+        let case = random_case(&mut r, Scale::Any);
+        let Ok(result) = outcome(case.entry, &case.args) else { continue };
+        let ty = read_type(&case.args[0]).expect("the case is accepted");
+        let mut all = features(&case, &ty, &result);
+        all.sort();
+        all.dedup();
+        for name in all {
+            *reached.entry(format!("{name}, {}", case.entry.name())).or_default() += 1;
+            *reached.entry(name).or_default() += 1;
+        }
+    }
+    reached.iter().for_each(|(name, n)| println!("{n:8} {name}"));
+    true
+}

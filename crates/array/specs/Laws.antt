@@ -4,7 +4,6 @@ use mathlib.Core.Path.{_≡_, refl, sym, ap, _∙_}
 use mathlib.Core.List.{List, [], _∷_, _++_, append-assoc, append-nil}
 use mathlib.Core.Option.{Option, none, some, Option·none-ne-some}
 use Prim.Native.Nat.{ℕ, zero, suc, _+_, _≤_, _<_}
-use native.Mathlib.Nat.{zero-add}
 use native.Mathlib.Omega.{arith}
 use lib.ListN.{length, drop, length-append, length-drop}
 use lib.Seq.{drop-drop, drop-at, drop-length}
@@ -14,7 +13,7 @@ use Rattle.model.specs.Outcome.{done, refused, _>>=_, or-refuse, all-read}
 use Rattle.model.specs.Options.{mapO, bindO}
 use Rattle.model.specs.Structural.{SValue, unit, left, right, pair, shape-records}
 use Rattle.model.specs.ShapeFiles.{read-shape, shape-of}
-use Rattle.model.specs.Laws.ShapeFiles.{shape-records-read, shape-read-written, shape-written-read}
+use Rattle.model.specs.Laws.ShapeFiles.{shape-records-read, shape-read-written}
 use Rattle.array.specs.declared.TreeEnd.{TreeEnd}
 use Rattle.array.specs.declared.TreeEnd.the-variants.{At, Nothing}
 use Rattle.array.specs.Ends.{closes, tree-end-of}
@@ -106,23 +105,7 @@ tree-end-at fuel s at to n h = go (read-shape fuel (drop at s)) refl
         let t : to ≡ at + length (shape-records (x .0)) = cc in
         record { tree = x .0; reads = q ∙ ap (λ l. some (x .0, l)) (r ∙ ap (λ k. drop k s) (sym t)); size = t; after = omega (arith, shape-some (x .0)); inside = omega (arith, shape-some (x .0), length-drop at s, ap length w, length-append (shape-records (x .0)) (x .1)) }
 
--- where there is no end no tree is read, with any fuel
-pub tree-end-nothing : (fuel : ℕ) (s : List ℕ) (at : ℕ) → tree-end-of s at ≡ Nothing → read-shape fuel (drop at s) ≡ none
-tree-end-nothing fuel s at h = go (read-shape fuel (drop at s)) refl
-  where
-    go : (o : Option (SValue × List ℕ)) → read-shape fuel (drop at s) ≡ o → o ≡ none
-    go none q = refl
-    go (some x) q = let e = tree-end-some fuel s at x q .0 in let z : _≡_ {A = ℕ} 0 1 = cc in absurd (omega arith)
-
 -- A WHOLE FILE
-
--- a shape file is one tree to its end, in 65,536 records or fewer
-pub shape-whole : (s : List ℕ) (t : SValue) → shape-of s ≡ done t → (tree-end-of s 0 ≡ At (length s)) × (length s ≤ most-shape-records)
-unfolding tree-end-of
-shape-whole s t h =
-    let (e, n) = shape-written-read s t h in
-    let w : s ≡ shape-records t ++ [] = e ∙ sym (append-nil (shape-records t)) in
-    (ap (λ m. closes 0 m 0) w ∙ closes-tree t [] 0 0 ∙ ap At (zero-add (length (shape-records t)) ∙ ap length (sym e)), n)
 
 -- so many records that are one tree to their end are a shape file
 pub whole-shape : (s : List ℕ) → length s ≤ most-shape-records → tree-end-of s 0 ≡ At (length s) → (t : SValue) × (shape-of s ≡ done t)

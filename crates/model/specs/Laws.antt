@@ -15,7 +15,6 @@ pub mod ValueFiles
 pub mod FrameFiles
 pub mod Sizes
 pub mod Places
-pub mod Kinds
 pub mod Parts
 pub mod FileParts
 pub mod Lowering

@@ -1,4 +1,4 @@
-// The public entries: each takes whole files and a buffer for its result, asks nothing of its caller, and answers a `Reply`.
+// The public entries: each takes whole files and a buffer for its result (an edit: the frame that it changes), asks nothing of its caller, and answers a `Reply`.
 use accept::Accepted;
 use accept::accept;
 use edit::edit_part;

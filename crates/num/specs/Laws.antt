@@ -18,7 +18,7 @@ use Rattle.num.specs.declared.NonZeroPow2Usize.{NonZeroPow2Usize}
 use Rattle.num.specs.declared.Pow2Usize.{Pow2Usize}
 use Rattle.num.specs.declared.Bound.the-variants as bounds
 use Rattle.num.specs.declared.Width.the-variants as bit-widths
-use Rattle.num.specs.Powers.{found, exponent-of, log2, bound, bound-exponent, bound-if, bound-of, bound-log2, half-bound, width, width-of, width-log2, half-width}
+use Rattle.num.specs.Powers.{found, exponent-of, log2, bound, bound-exponent, bound-if, bound-of, bound-log2, half-bound, width, width-of, width-log2}
 
 -- SEARCHES
 
@@ -128,14 +128,6 @@ bound-is n b h = go (bound-exponent n) refl h
     go none q m = let z : _≡_ {A = ℕ} 0 1 = cc in absurd (omega arith)
     go (some e) q m = (e, q, cc)
 
-pub bound-not : (n : ℕ) → bounds.Not ≡ bound-of n → find (λ e. 2 ^ suc e) 15 0 n ≡ none
-unfolding bound-of
-bound-not n h = go (bound-exponent n) h
-  where
-    go : (o : Option ℕ) → bounds.Not ≡ bound-if n o → o ≡ none
-    go none m = refl
-    go (some e) m = let z : _≡_ {A = ℕ} 0 1 = cc in absurd (omega arith)
-
 -- the smallest bound has no half, and the half of a larger one is the bound before it
 pub half-bound-two : bounds.Not ≡ half-bound 2
 unfolding half-bound
@@ -198,20 +190,3 @@ width-is n w h = go (one-of n widths) h
     go : (b : Bool) → bit-widths.Of w ≡ pick b (bit-widths.Of (width n)) bit-widths.Not → (b ≡ true) × (w ≡ width n)
     go true m = (refl, cc)
     go false m = let z : _≡_ {A = ℕ} 0 1 = cc in absurd (omega arith)
-
-pub width-not : (n : ℕ) → bit-widths.Not ≡ width-of n → one-of n widths ≡ false
-unfolding width-of
-width-not n h = go (one-of n widths) h
-  where
-    go : (b : Bool) → bit-widths.Not ≡ pick b (bit-widths.Of (width n)) bit-widths.Not → b ≡ false
-    go true m = let z : _≡_ {A = ℕ} 0 1 = cc in absurd (omega arith)
-    go false m = refl
-
--- the smallest width has no half, and the half of a larger one is the width before it
-pub half-width-one : bit-widths.Not ≡ half-width 1
-unfolding half-width
-half-width-one = refl
-
-pub half-width-more : (k : ℕ) → bit-widths.Of (width (2 ^ k)) ≡ half-width (2 ^ suc k)
-unfolding half-width
-half-width-more k = rw (half-power k, le-ltb (2 ^ k) 1 (one-le-pow k 2 (omega arith)))

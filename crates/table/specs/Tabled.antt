@@ -1,4 +1,4 @@
--- Rows 1 to 7 of a type file and its whole table, as later walks are given them.
+-- Rows 1 to 7 of a type file and its whole table, as walks are given them.
 use mathlib.Core.Path.{_≡_, sym, subst, _∙_}
 use mathlib.Core.List.{List}
 use mathlib.Core.Bool.{true, false}

@@ -13,8 +13,8 @@ use Rattle.types.specs.declared.Walk.the-variants.{End}
 use Rattle.types.specs.Record.{headAt, callsFor, recAt}
 use Rattle.types.specs.Walks.{many, walk}
 use Rattle.types.specs.Table.{Ends}
-use Rattle.types.specs.Trees.{endOf, kids, cases, node, payload, tree, treev}
-use Rattle.model.specs.Types.{Ty, Tys, cons, more}
+use Rattle.types.specs.Trees.{endOf, kids, node, payload, tree, treev}
+use Rattle.model.specs.Types.{Ty, cons}
 use Rattle.types.specs.Unique.{bad-end, kind, count, opened, nexts, inside}
 
 -- a whole subtree starts here, with d levels from here on
@@ -116,8 +116,3 @@ pub kids-more : (g : ℕ → Ty) (f : ℕ → Walk) (n at : ℕ) → (n ≡ 0 �
 unfolding kids
 kids-more g f zero at h = absurd (h refl)
 kids-more g f (suc n) at h = rw sub-one
-
-pub cases-more : (g : ℕ → Tys) (f : ℕ → Walk) (n at : ℕ) → (n ≡ 0 → ⊥) → cases g f n at ≡ more (g at) (cases g f (n - 1) (endOf (f at)))
-unfolding cases
-cases-more g f zero at h = absurd (h refl)
-cases-more g f (suc n) at h = rw sub-one

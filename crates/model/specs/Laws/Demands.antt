@@ -1,13 +1,14 @@
 -- THE DEMANDS, as theorems about files. A file is a list of bytes; `p` is the place of the padding (01: after).
 -- 1. the two laws of each kind of file. 2. Demand 2. 3. Demand 3. 4. Sizes.
 use mathlib.Core.Path.{_≡_, refl, sym, ap, ap₂, subst, _∙_}
-use mathlib.Core.List.{List, [], _++_, append-nil}
+use mathlib.Core.List.{List, [], _++_, append-nil, append-assoc}
 use mathlib.Core.Bool.{true, false}
 use mathlib.Core.Logic.{_↔_}
 use mathlib.Core.Option.{Option, none, some, Option·none-ne-some, Option·some-injective}
-use Prim.Native.Nat.{ℕ, _+_, _*_, _≤_, _<_}
+use Prim.Native.Nat.{ℕ, _+_, _*_, _≤_}
 use native.Mathlib.Omega.{arith}
-use lib.ListN.{length, take, drop, getD, drop-of-length-le}
+use lib.ListN.{length, take, drop, drop-of-length-le}
+use lib.Seq.{take-at}
 use borrow.Author.Tests.{le-ltb}
 use Rattle.model.specs.Numbers.{stray-bit, frame-length, not-reconstructed, no-such-part, most-type-records, most-shape-records, deepest}
 use Rattle.model.specs.Outcome.{Outcome, done, refused, _>>=_, _>>_, or-refuse}
@@ -26,6 +27,7 @@ use Rattle.model.specs.Paths.{Found, found, steps, part-records, replace
 use Rattle.model.specs.Parts.{Part, part}
 use Rattle.model.specs.Operations.{lowering, lowered, shaped, reconstructed, framed, unframed, part-read, edited, delivered}
 use Rattle.model.specs.Conditions.{ShapeBelongs, TypeLowers, FrameAccepted, PathLeads, HasType, Begins}
+use Rattle.model.specs.Edits.{MayEdit, Replaced}
 use Rattle.model.specs.Laws.Outcome.{refused-done, done-injective, outcome-step, or-refuse-done}
 use Rattle.model.specs.Laws.Bytes.{length-bits-of}
 use Rattle.model.specs.Laws.TypeFiles.{Allowed, depth, type-read-written, type-written-read}
@@ -223,22 +225,6 @@ module _ (ty : List ℕ) (b : Bytes ty) where
 
 -- 3. DEMAND 3
 
--- what an accepted edit leaves: `result`, where `frame` was
-pub record Edit (p : Place) (ty frame path val : List ℕ) (target : Found) (old : List ℕ) (new : Value (target .type)) : Type 0 where
-  pub result : List ℕ
-  -- exactly the frame of the value whose file is the old one with the part's records replaced
-  pub frame-of : framed p ty (replaced target old val) ≡ done result
-  pub reads : unframed p ty result ≡ done (replaced target old val)
-  pub size : length result ≡ length frame
-  -- the part's stretch: it begins at `bit`, is as wide as the part's type, and now holds the new value's own frame bits
-  pub bit : ℕ
-  pub begins : Begins p ty frame path bit
-  pub own : length (frame-bits p (target .type) new) ≡ width (lower (target .type))
-  pub inside : bit + width (lower (target .type)) ≤ 8 * length frame
-  pub bits : bits-of result ≡ take bit (bits-of frame) ++ frame-bits p (target .type) new ++ drop (bit + width (lower (target .type))) (bits-of frame)
-  -- no bit outside it has changed, tail included
-  pub others : (i : ℕ) → (i < bit → getD (bits-of result) i false ≡ getD (bits-of frame) i false) × (bit + width (lower (target .type)) ≤ i → getD (bits-of result) i false ≡ getD (bits-of frame) i false)
-
 -- what a part of a frame is: records i to j of its value's file are the value file of the part's value, and the bits of the whole are
 -- those that writing the whole writes before the part, the part's own frame bits, and those behind them
 pub record Reading (p : Place) (ty frame path : List ℕ) (target : Found) (old : List ℕ) : Type 0 where
@@ -256,7 +242,8 @@ module _ (p : Place) (ty : List ℕ) (t : Ty) (k : lowering ty ≡ done t) (q : 
     begins-there : Begins p ty frame path (length (c .ahead))
     begins-there = record { type = t; lowers = k; whole = s .value; reads = ap (unframe p t) (s .frame-is) ∙ frame-read-written p t (s .value) (s .valid); picks = picks; even = even; place = c; leads = e; here = refl }
 
-    edit-there : (val : List ℕ) (new : Value (c .type)) → Bytes val → value-of (c .type) val ≡ done new → Edit p ty frame path val at-part old new
+    edit-there : (val : List ℕ) (new : Value (c .type)) → Bytes val → value-of (c .type) val ≡ done new → (result : List ℕ) × Replaced p ty frame path val at-part old new result
+    unfolding begins-there
     edit-there val new b h =
         let l = part-there p t picks (s .value) c (s .valid) e in
         let (o, f) = value-written-read (c .type) val new b h in
@@ -267,18 +254,24 @@ module _ (p : Place) (ty : List ℕ) (t : Ty) (k : lowering ty ≡ done t) (q : 
         let w : length (frame-bits p (c .type) new) ≡ width (lower (c .type)) = length-frame p (c .type) new o in
         let x : bits-of (frame-file p t (c .put new)) ≡ take (length (c .ahead)) (bits-of frame) ++ frame-bits p (c .type) new ++ drop (length (c .ahead) + width (lower (c .type))) (bits-of frame) =
         edited-bits p t (s .value) picks c (s .valid) e new o ∙ ap (λ y. take (length (c .ahead)) (bits-of y) ++ frame-bits p (c .type) new ++ drop (length (c .ahead) + width (lower (c .type))) (bits-of y)) (sym (s .frame-is)) in
-        record {
-          result = frame-file p t (c .put new);
-          frame-of = ap (framed p ty) file ∙ framed-is p ty t k q (c .put new) valid;
-          reads = unframed-is p ty t k q (c .put new) valid ∙ ap done (sym file);
-          size = length-frame-file p t (c .put new) valid ∙ sym n;
-          bit = length (c .ahead);
-          begins = begins-there;
-          own = w;
-          inside = i;
-          bits = x;
-          others = λ j. outside (bits-of frame) (bits-of (frame-file p t (c .put new))) (frame-bits p (c .type) new) (length (c .ahead)) (width (lower (c .type))) j (omega (arith, length-bits-of frame)) w x;
-        }
+        let y = stretch-bits p t (s .value) picks c (s .valid) e in
+        let z : take (length (c .ahead)) (bits-of frame) ≡ c .ahead = ap (λ f. take (length (c .ahead)) (bits-of f)) (s .frame-is) ∙ ap (take (length (c .ahead))) (y ∙ append-assoc (c .ahead) _ _) ∙ take-at (c .ahead) _ (length (c .ahead)) refl in (
+          frame-file p t (c .put new),
+          record {
+            frame-was = ap (framed p ty) (s .file-is) ∙ framed-is p ty t k q (s .value) (s .valid) ∙ ap done (sym (s .frame-is));
+            frame-of = ap (framed p ty) file ∙ framed-is p ty t k q (c .put new) valid;
+            reads = unframed-is p ty t k q (c .put new) valid ∙ ap done (sym file);
+            size = length-frame-file p t (c .put new) valid ∙ sym n;
+            bit = length (c .ahead);
+            begins = begins-there;
+            ahead = z;
+            type-is = refl;
+            own = w;
+            inside = i;
+            bits = x;
+            others = λ j. outside (bits-of frame) (bits-of (frame-file p t (c .put new))) (frame-bits p (c .type) new) (length (c .ahead)) (width (lower (c .type))) j (omega (arith, length-bits-of frame)) w x;
+          },
+        )
 
     read-there : Reading p ty frame path at-part old
     unfolding begins-there
@@ -307,8 +300,8 @@ module _ (p : Place) (ty : List ℕ) (t : Ty) (k : lowering ty ≡ done t) (q : 
   part-at : (target : Found) → found t picks old ≡ some target → Reading p ty frame path target old
   part-at target leads = leads-there target leads (λ f. Reading p ty frame path f old) read-there
 
-  edit-at : (target : Found) → found t picks old ≡ some target → (val : List ℕ) (new : Value (target .type)) → Bytes val → value-of (target .type) val ≡ done new → Edit p ty frame path val target old new
-  edit-at target leads = leads-there target leads (λ f. (val : List ℕ) (new : Value (f .type)) → Bytes val → value-of (f .type) val ≡ done new → Edit p ty frame path val f old new) edit-there
+  edit-at : (target : Found) → found t picks old ≡ some target → (val : List ℕ) (new : Value (target .type)) → Bytes val → value-of (target .type) val ≡ done new → (result : List ℕ) × Replaced p ty frame path val target old new result
+  edit-at target leads = leads-there target leads (λ f. (val : List ℕ) (new : Value (f .type)) → Bytes val → value-of (f .type) val ≡ done new → (result : List ℕ) × Replaced p ty frame path val f old new result) edit-there
 
 -- a result as long as the buffer fills it
 fills : (result buffer : List ℕ) → length result ≡ length buffer → delivered (done result) buffer ≡ (0, length buffer, result)
@@ -335,23 +328,23 @@ module _ (p : Place) (ty frame path val : List ℕ) where
 
   module _ (tyb : Bytes ty) (fb : Bytes frame) (vb : Bytes val) where
     -- accepted, it leaves exactly the frame of the old value with that one part replaced, and no bit outside the part's own stretch has changed
-    pub edit-leaves : (target : Found) (l : PathLeads p ty frame path target) (has : HasType target val) → (e : Edit p ty frame path val target (l .old) (has .0)) × (edited p ty frame path val ≡ done (e .result))
+    pub edit-leaves : (target : Found) (l : PathLeads p ty frame path target) (has : HasType target val) → (result : List ℕ) × Replaced p ty frame path val target (l .old) (has .0) result × (edited p ty frame path val ≡ done result)
     edit-leaves target l has =
         let q = known ty (l .type) tyb (l .lowers) in
         let s = unframed-read p ty (l .type) (l .lowers) q frame (l .old) fb (l .accepted) in
-        let e = edit-at p ty (l .type) (l .lowers) q frame (l .old) s path (l .picks) (l .even) target (l .leads) val (has .0) vb (has .1) in
-        (e, edit-chain target l (has .0) (has .1) ∙ e .frame-of)
+        let (result, e) = edit-at p ty (l .type) (l .lowers) q frame (l .old) s path (l .picks) (l .even) target (l .leads) val (has .0) vb (has .1) in
+        (result, e, edit-chain target l (has .0) (has .1) ∙ e .frame-of)
 
     -- accepted exactly when the type lowers, the frame is accepted for it, the path leads to a part present in it, and the new value has that part's type
-    pub edit-accepted : ((result : List ℕ) × (edited p ty frame path val ≡ done result)) ↔ (TypeLowers ty × FrameAccepted p ty frame × ((target : Found) × PathLeads p ty frame path target × HasType target val))
-    edit-accepted = ((λ r. let c = edit-conditions (r .0) (r .1) in (c .0, frame-accepted ty tyb p frame fb .0 (c .1), c .2)), λ c. let (e, g) = edit-leaves (c .2 .0) (c .2 .1) (c .2 .2) in (e .result, g))
+    pub edit-accepted : ((result : List ℕ) × (edited p ty frame path val ≡ done result)) ↔ MayEdit p ty frame path val
+    edit-accepted = ((λ r. let c = edit-conditions (r .0) (r .1) in (c .0, frame-accepted ty tyb p frame fb .0 (c .1), c .2)), λ c. let (result, e, g) = edit-leaves (c .2 .0) (c .2 .1) (c .2 .2) in (result, g))
 
     -- in the lent buffer: accepted, the frame's own bytes become the result
     pub edit-in-place : (result : List ℕ) → edited p ty frame path val ≡ done result → delivered (edited p ty frame path val) frame ≡ (0, length frame, result)
     edit-in-place result h =
         let c = edit-conditions result h in
-        let (e, g) = edit-leaves (c .2 .0) (c .2 .1) (c .2 .2) in
-        let r : e .result ≡ result = done-injective (e .result) result (sym g ∙ h) in
+        let (left, e, g) = edit-leaves (c .2 .0) (c .2 .1) (c .2 .2) in
+        let r : left ≡ result = done-injective left result (sym g ∙ h) in
         ap (λ o. delivered o frame) h ∙ fills result frame (ap length (sym r) ∙ e .size)
 
     -- refused, it has changed none

@@ -1,7 +1,8 @@
 -- Demand 3 of the operation: whatever is delivered of an edit is as `Edits` says.
-use mathlib.Core.Path.{_≡_, refl, sym, ap, _∙_}
+use mathlib.Core.Path.{_≡_, refl, sym, ap, subst, _∙_}
 use mathlib.Core.List.{List}
-use Prim.Native.Nat.{ℕ}
+use mathlib.Core.Logic.{_⊎_, inl, inr}
+use Prim.Native.Nat.{ℕ, _≤_}
 use native.Mathlib.Omega.{arith}
 use lib.ListN.{length}
 use Rattle.model.specs.Outcome.{Outcome, done, refused}
@@ -12,28 +13,22 @@ use Rattle.model.specs.Operations.{edited, delivered}
 use Rattle.model.specs.Conditions.{PathLeads, HasType}
 use Rattle.model.specs.Edits.{Replaced, Edited}
 use Rattle.model.specs.Laws.Outcome.{refused-done, done-injective}
-use Rattle.model.specs.Laws.Numbered.{edited-row}
+use Rattle.model.specs.Laws.Numbered.{Rows, edited-row}
 use Rattle.model.specs.Laws.Demands.{edit-leaves, edit-accepted, edit-in-place, edit-refused}
 
 module _ (p : Place) (ty frame path val : List ℕ) (b : Bytes ty) (c : Bytes frame) (d : Bytes val) (n len : ℕ) (left : List ℕ) where
   abbrev Answer : Type 0
   Answer = ℕ × ℕ × List ℕ
 
-  replaced-there : edited p ty frame path val ≡ done left → (target : Found) (leads : PathLeads p ty frame path target) (has : HasType target val) → Replaced p ty frame path val target leads has left
+  replaced-there : edited p ty frame path val ≡ done left → (target : Found) (leads : PathLeads p ty frame path target) (has : HasType target val) → Replaced p ty frame path val target (leads .old) (has .0) left
   replaced-there e target leads has =
-      let (r, g) = edit-leaves p ty frame path val b c d target leads has in
-      let same : r .result ≡ left = done-injective (r .result) left (sym g ∙ e) in
-      record {
-        frame-of = r .frame-of ∙ ap done same;
-        reads = rw same at (r .reads);
-        size = rw same at (r .size);
-        bit = r .bit;
-        begins = r .begins;
-        inside = r .inside;
-        own = r .own;
-        bits = rw same at (r .bits);
-        others = rw same at (r .others);
-      }
+      let (result, r, g) = edit-leaves p ty frame path val b c d target leads has in
+      subst (Replaced p ty frame path val target (leads .old) (has .0)) (done-injective result left (sym g ∙ e)) r
+
+  -- the table has no row 0
+  row-some : {m : ℕ} → Rows 1 7 m ⊎ Rows 11 16 m → 1 ≤ m
+  row-some (inl r) = r .0
+  row-some (inr r) = omega (arith, r .0)
 
   pub edit-answered : _≡_ {A = ℕ × ℕ × List ℕ} (n, len, left) (delivered (edited p ty frame path val) frame) → Edited p ty frame path val n len left
   edit-answered h = go (edited p ty frame path val) refl
@@ -56,7 +51,7 @@ module _ (p : Place) (ty frame path val : List ℕ) (b : Bytes ty) (c : Bytes fr
           let same : n ≡ m = ap (λ (x : Answer). x .0) k in
           let none : len ≡ 0 = ap (λ (x : Answer). x .1) k in
           let kept : left ≡ frame = ap (λ (x : Answer). x .2) k in
-          let row = edited-row p ty frame path val m e in
+          let some : 1 ≤ m = row-some (edited-row p ty frame path val m e) in
           record {
             accepted = ((λ i. absurd (omega arith)), λ a. let (result, g) = edit-accepted p ty frame path val b c d .1 a in absurd (refused-done m result (sym e ∙ g)));
             length-is = λ i. absurd (omega arith);

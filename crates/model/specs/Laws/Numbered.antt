@@ -1,7 +1,8 @@
--- DEMAND 1, of the operations: each finishes with a result or with a number of 01's table, 1 to 17. So 0 tells a result.
+-- DEMAND 1, of the operations: each finishes with a result or with a number of its own rows in 01's table. So 0 tells a result.
 use mathlib.Core.Path.{_≡_, ap}
 use mathlib.Core.Bool.{Bool, true, false, not, _||_}
 use mathlib.Core.List.{List, [], _∷_, map}
+use mathlib.Core.Logic.{_⊎_, inl, inr}
 use mathlib.Core.Option.{Option, none, some}
 use Prim.Native.Nat.{ℕ, zero, suc, _*_, _%_, _≤_}
 use native.Mathlib.Omega.{arith}
@@ -21,9 +22,9 @@ use Rattle.model.specs.Frames.{Place, width, frame-bytes, from-bits, str
 use Rattle.model.specs.Paths.{steps, found}
 use Rattle.model.specs.Operations.{lowering, lowered, shaped, reconstructed, framed, unframed, part-read, edited}
 
--- a number of the table
-abbrev pub Row : ℕ → Type 0
-Row n = (1 ≤ n) × (n ≤ 17)
+-- one of the rows i to j of the table
+abbrev pub Rows : ℕ → ℕ → ℕ → Type 0
+Rows i j n = (i ≤ n) × (n ≤ j)
 
 -- STEPS: where a chain refuses, one of its steps does
 
@@ -52,16 +53,20 @@ by-rest {A} {X} {P} m x n h k = go (x .0) (x .1) h
     go a [] e = done-refused a n e
     go a (r ∷ rs) e = k (refused-is m n e)
 
--- a row of the table holds by its number
-known : {n : ℕ} (m : ℕ) → 1 ≤ m → m ≤ 17 → m ≡ n → Row n
+-- a row holds by its number
+known : {i j n : ℕ} (m : ℕ) → i ≤ m → m ≤ j → m ≡ n → Rows i j n
 known m a b e = (omega arith, omega arith)
+
+-- rows among more rows
+among : {i j h k n : ℕ} → h ≤ i → j ≤ k → Rows i j n → Rows h k n
+among a b r = (omega (arith, r .0), omega (arith, r .1))
 
 -- TYPE FILES
 
 abbrev Reads : {A : Type 0} → Reader A → Type 0
-Reads f = (rs : List TRec) (n : ℕ) → f rs ≡ refused n → Row n
+Reads f = (rs : List TRec) (n : ℕ) → f rs ≡ refused n → Rows 1 5 n
 
-makes : {A B : Type 0} (f : A → B) (o : Outcome (A × List TRec)) (n : ℕ) → made f o ≡ refused n → (o ≡ refused n → Row n) → Row n
+makes : {A B : Type 0} (f : A → B) (o : Outcome (A × List TRec)) (n : ℕ) → made f o ≡ refused n → (o ≡ refused n → Rows 1 5 n) → Rows 1 5 n
 makes f o n h k = by-step o _ n h k (λ x e. done-refused _ n e)
 
 types-read : (f : Reader Ty) → Reads f → (k : ℕ) → Reads (read-types f k)
@@ -98,7 +103,7 @@ mutual
   variant-read zero rs n h = recorded _ (λ r s n h. by-step (or-refuse bad-record (variant-parts r)) _ n h (λ e. by-none bad-record (variant-parts r) n e (known bad-record (omega arith) (omega arith))) (λ k e. known too-deep (omega arith) (omega arith) (refused-is {A = Tys × List TRec} too-deep n e))) rs n h
   variant-read (suc l) rs n h = recorded _ (λ r s n h. by-step (or-refuse bad-record (variant-parts r)) _ n h (λ e. by-none bad-record (variant-parts r) n e (known bad-record (omega arith) (omega arith))) (λ k e. types-read (λ x. read-type l x) (λ x n h. type-read l x n h) k s n e)) rs n h
 
-type-row : (ty : List ℕ) (n : ℕ) → type-of ty ≡ refused n → Row n
+type-row : (ty : List ℕ) (n : ℕ) → type-of ty ≡ refused n → Rows 1 5 n
 unfolding type-of
 type-row ty n h =
     by-row type-length (eqb (length ty) 0 || not (eqb (length ty % 4) 0)) _ n h (known type-length (omega arith) (omega arith))
@@ -107,74 +112,79 @@ type-row ty n h =
 
 -- OTHER FILES
 
-value-row : (t : Ty) (val : List ℕ) (n : ℕ) → value-of t val ≡ refused n → Row n
+value-row : (t : Ty) (val : List ℕ) (n : ℕ) → value-of t val ≡ refused n → Rows 15 16 n
 unfolding value-of
 value-row t val n h =
     by-row value-length (eqb (length val) 0 || not (eqb (length val % 36) 0)) _ n h (known value-length (omega arith) (omega arith))
     (λ e. by-step (or-refuse not-one-value (parse t (map value-record (records 36 val)))) _ n e (λ e. by-none not-one-value (parse t (map value-record (records 36 val))) n e (known not-one-value (omega arith) (omega arith))) (λ x e. by-rest not-one-value x n e (known not-one-value (omega arith) (omega arith))))
 
-shape-row : (shape : List ℕ) (n : ℕ) → shape-of shape ≡ refused n → Row n
+shape-row : (shape : List ℕ) (n : ℕ) → shape-of shape ≡ refused n → Rows 8 9 n
 unfolding shape-of
 shape-row shape n h =
     by-row shape-too-long (ltb most-shape-records (length shape)) _ n h (known shape-too-long (omega arith) (omega arith))
     (λ e. by-step (or-refuse not-one-tree (read-shape (length shape) shape)) _ n e (λ e. by-none not-one-tree (read-shape (length shape) shape) n e (known not-one-tree (omega arith) (omega arith))) (λ x e. by-rest not-one-tree x n e (known not-one-tree (omega arith) (omega arith))))
 
-frame-row : (p : Place) (t : Ty) (frame : List ℕ) (n : ℕ) → unframe p t frame ≡ refused n → Row n
+frame-row : (p : Place) (t : Ty) (frame : List ℕ) (n : ℕ) → unframe p t frame ≡ refused n → Rows 11 12 n
 unfolding unframe
 frame-row p t frame n h =
     by-row frame-length (not (eqb (length frame) (frame-bytes t))) _ n h (known frame-length (omega arith) (omega arith))
     (λ e. by-row stray-bit (any (stray-bits p t frame)) _ n e (known stray-bit (omega arith) (omega arith))
     (λ e. by-none stray-bit (reconstruct t (from-bits p (lower t) (take (width (lower t)) (bits-of frame)))) n e (known stray-bit (omega arith) (omega arith))))
 
-path-row : (path : List ℕ) (n : ℕ) → steps path ≡ refused n → Row n
+path-row : (path : List ℕ) (n : ℕ) → steps path ≡ refused n → Rows 13 13 n
 unfolding steps
 path-row path n h = by-row path-odd (not (eqb (length path % 2) 0)) _ n h (known path-odd (omega arith) (omega arith)) (λ e. done-refused _ n e)
 
 -- THE OPERATIONS
 
-lowering-row : (ty : List ℕ) (n : ℕ) → lowering ty ≡ refused n → Row n
+lowering-row : (ty : List ℕ) (n : ℕ) → lowering ty ≡ refused n → Rows 1 7 n
 unfolding lowering
 lowering-row ty n h =
-    by-step (type-of ty) _ n h (type-row ty n)
+    by-step (type-of ty) _ n h (λ e. among (omega arith) (omega arith) (type-row ty n e))
     (λ t e. by-row never-stands (has-never t) _ n e (known never-stands (omega arith) (omega arith)) (λ e. by-row too-large (over-large t) _ n e (known too-large (omega arith) (omega arith)) (λ e. done-refused _ n e)))
 
-pub lowered-row : (ty : List ℕ) (n : ℕ) → lowered ty ≡ refused n → Row n
+pub lowered-row : (ty : List ℕ) (n : ℕ) → lowered ty ≡ refused n → Rows 1 7 n
 unfolding lowered
 lowered-row ty n h = by-step (lowering ty) _ n h (lowering-row ty n) (λ t e. done-refused _ n e)
 
-pub shaped-row : (ty val : List ℕ) (n : ℕ) → shaped ty val ≡ refused n → Row n
+pub shaped-row : (ty val : List ℕ) (n : ℕ) → shaped ty val ≡ refused n → Rows 1 7 n ⊎ Rows 15 16 n
 unfolding shaped
-shaped-row ty val n h = by-step (lowering ty) _ n h (lowering-row ty n) (λ t e. by-step (value-of t val) _ n e (value-row t val n) (λ v e. done-refused _ n e))
+shaped-row ty val n h = by-step (lowering ty) _ n h (λ e. inl (lowering-row ty n e)) (λ t e. by-step (value-of t val) _ n e (λ e. inr (value-row t val n e)) (λ v e. done-refused _ n e))
 
-pub reconstructed-row : (ty shape : List ℕ) (n : ℕ) → reconstructed ty shape ≡ refused n → Row n
+pub reconstructed-row : (ty shape : List ℕ) (n : ℕ) → reconstructed ty shape ≡ refused n → Rows 1 5 n ⊎ Rows 8 10 n
 unfolding reconstructed
 reconstructed-row ty shape n h =
-    by-step (type-of ty) _ n h (type-row ty n)
-    (λ t e. by-step (shape-of shape) _ n e (shape-row shape n)
-    (λ s e. by-step (or-refuse not-reconstructed (reconstruct t s)) _ n e (λ e. by-none not-reconstructed (reconstruct t s) n e (known not-reconstructed (omega arith) (omega arith))) (λ v e. done-refused _ n e)))
+    by-step (type-of ty) _ n h (λ e. inl (type-row ty n e))
+    (λ t e. by-step (shape-of shape) _ n e (λ e. inr (among (omega arith) (omega arith) (shape-row shape n e)))
+    (λ s e. by-step (or-refuse not-reconstructed (reconstruct t s)) _ n e (λ e. by-none not-reconstructed (reconstruct t s) n e (λ i. inr (known not-reconstructed (omega arith) (omega arith) i))) (λ v e. done-refused _ n e)))
 
 module _ (p : Place) where
-  pub framed-row : (ty val : List ℕ) (n : ℕ) → framed p ty val ≡ refused n → Row n
+  pub framed-row : (ty val : List ℕ) (n : ℕ) → framed p ty val ≡ refused n → Rows 1 7 n ⊎ Rows 15 16 n
   unfolding framed
-  framed-row ty val n h = by-step (lowering ty) _ n h (lowering-row ty n) (λ t e. by-step (value-of t val) _ n e (value-row t val n) (λ v e. done-refused _ n e))
+  framed-row ty val n h = by-step (lowering ty) _ n h (λ e. inl (lowering-row ty n e)) (λ t e. by-step (value-of t val) _ n e (λ e. inr (value-row t val n e)) (λ v e. done-refused _ n e))
 
-  pub unframed-row : (ty frame : List ℕ) (n : ℕ) → unframed p ty frame ≡ refused n → Row n
+  pub unframed-row : (ty frame : List ℕ) (n : ℕ) → unframed p ty frame ≡ refused n → Rows 1 7 n ⊎ Rows 11 12 n
   unfolding unframed
-  unframed-row ty frame n h = by-step (lowering ty) _ n h (lowering-row ty n) (λ t e. by-step (unframe p t frame) _ n e (frame-row p t frame n) (λ v e. done-refused _ n e))
+  unframed-row ty frame n h = by-step (lowering ty) _ n h (λ e. inl (lowering-row ty n e)) (λ t e. by-step (unframe p t frame) _ n e (λ e. inr (frame-row p t frame n e)) (λ v e. done-refused _ n e))
 
-  pub part-read-row : (ty frame path : List ℕ) (n : ℕ) → part-read p ty frame path ≡ refused n → Row n
+  -- of the rows behind, if not of the lowering's
+  behind : {i j h k n : ℕ} → h ≤ i → j ≤ k → Rows 1 7 n ⊎ Rows i j n → Rows 1 7 n ⊎ Rows h k n
+  behind a b (inl r) = inl r
+  behind a b (inr r) = inr (among a b r)
+
+  pub part-read-row : (ty frame path : List ℕ) (n : ℕ) → part-read p ty frame path ≡ refused n → Rows 1 7 n ⊎ Rows 11 14 n
   unfolding part-read
   part-read-row ty frame path n h =
-      by-step (lowering ty) _ n h (lowering-row ty n)
-      (λ t e. by-step (unframed p ty frame) _ n e (unframed-row ty frame n)
-      (λ old e. by-step (steps path) _ n e (path-row path n)
-      (λ q e. by-step (or-refuse no-such-part (found t q old)) _ n e (λ e. by-none no-such-part (found t q old) n e (known no-such-part (omega arith) (omega arith))) (λ f e. done-refused _ n e))))
+      by-step (lowering ty) _ n h (λ e. inl (lowering-row ty n e))
+      (λ t e. by-step (unframed p ty frame) _ n e (λ e. behind (omega arith) (omega arith) (unframed-row ty frame n e))
+      (λ old e. by-step (steps path) _ n e (λ e. inr (among (omega arith) (omega arith) (path-row path n e)))
+      (λ q e. by-step (or-refuse no-such-part (found t q old)) _ n e (λ e. by-none no-such-part (found t q old) n e (λ i. inr (known no-such-part (omega arith) (omega arith) i))) (λ f e. done-refused _ n e))))
 
-  pub edited-row : (ty frame path val : List ℕ) (n : ℕ) → edited p ty frame path val ≡ refused n → Row n
+  pub edited-row : (ty frame path val : List ℕ) (n : ℕ) → edited p ty frame path val ≡ refused n → Rows 1 7 n ⊎ Rows 11 16 n
   unfolding edited
   edited-row ty frame path val n h =
-      by-step (lowering ty) _ n h (lowering-row ty n)
-      (λ t e. by-step (unframed p ty frame) _ n e (unframed-row ty frame n)
-      (λ old e. by-step (steps path) _ n e (path-row path n)
-      (λ q e. by-step (or-refuse no-such-part (found t q old)) _ n e (λ e. by-none no-such-part (found t q old) n e (known no-such-part (omega arith) (omega arith)))
-      (λ f e. by-step (value-of (f .type) val) _ n e (value-row (f .type) val n) (λ w e. framed-row ty _ n e)))))
+      by-step (lowering ty) _ n h (λ e. inl (lowering-row ty n e))
+      (λ t e. by-step (unframed p ty frame) _ n e (λ e. behind (omega arith) (omega arith) (unframed-row ty frame n e))
+      (λ old e. by-step (steps path) _ n e (λ e. inr (among (omega arith) (omega arith) (path-row path n e)))
+      (λ q e. by-step (or-refuse no-such-part (found t q old)) _ n e (λ e. by-none no-such-part (found t q old) n e (λ i. inr (known no-such-part (omega arith) (omega arith) i)))
+      (λ f e. by-step (value-of (f .type) val) _ n e (λ e. inr (among (omega arith) (omega arith) (value-row (f .type) val n e))) (λ w e. behind (omega arith) (omega arith) (framed-row ty _ n e))))))

@@ -2,7 +2,7 @@
 -- A tree of n parts has n - 1 records of its own, whatever its form; a shape has no more records than its type; and each bit of a frame has two records, so that 65,536 records never need more than 4,096 bytes of frame.
 use mathlib.Core.Path.{_≡_, refl, sym, ap, ap₂, _∙_}
 use mathlib.Core.List.{List, [], _∷_}
-use Prim.Native.Nat.{ℕ, zero, suc, _+_, _-_, _*_, _≤_, _^_, max}
+use Prim.Native.Nat.{ℕ, zero, suc, _+_, _-_, _*_, _≤_, _^_}
 use native.Mathlib.Omega.{arith}
 use native.Mathlib.Nat.{zero-mul, suc-mul, one-le-pow, sub-zero, suc-sub-suc}
 use lib.Dec.{ltb}
@@ -158,18 +158,6 @@ drop-replicate zero n a h = ap (λ m. replicate m a) (sym (sub-zero n))
 drop-replicate (suc k) zero a h = absurd (omega arith)
 drop-replicate (suc k) (suc n) a h = drop-replicate k n a (omega arith) ∙ ap (λ m. replicate m a) (sym (suc-sub-suc n k))
 
--- an array's type, as the tree of n parts
-array-type : (n : ℕ) (t : SType) → product (btree n) (replicate n t) ≡ productOf (replicate n t)
-array-type n t = ap (λ k. product (btree k) (replicate n t)) (sym (length-replicate n t))
-
--- an array of n: the arrays of the two sides
-pub array-step : (n : ℕ) (t : SType) → 2 ≤ n → productOf (replicate n t) ≡ productOf (replicate (btree-split-index n) t) ⊗ productOf (replicate (n - btree-split-index n) t)
-array-step n t h =
-    let b = split-bounds n h in
-    let k = btree-split-index n in
-    sym (array-type n t) ∙ fold-step _⊗_ 𝟙 n h (replicate n t)
-    ∙ ap₂ {C = SType} _⊗_ (ap (product (btree k)) (take-replicate k n t (omega arith)) ∙ array-type k t) (ap (product (btree (n - k))) (drop-replicate k n t (omega arith)) ∙ array-type (n - k) t)
-
 -- the only variant: the payload
 pub enum-one : (i : ℕ) (s : SValue) → enum-injection (btree 1) i s ≡ s
 unfolding btree grow enum-injection
@@ -179,11 +167,6 @@ enum-one i s = refl
 pub enum-step : (n i : ℕ) (s : SValue) → 2 ≤ n → enum-injection (btree n) i s ≡ pick (ltb i (btree-split-index n)) (left (enum-injection (btree (btree-split-index n)) i s)) (right (enum-injection (btree (n - btree-split-index n)) (i - btree-split-index n) s))
 unfolding enum-injection
 enum-step n i s h = rw (btree-fork n h) (rw (leaves-left n h) refl)
-
--- a sum of n types: a tag and the wider side
-pub width-sum-step : (n : ℕ) (ts : List SType) → 2 ≤ n
-    → width (balanced-sum (btree n) ts) ≡ suc (max (width (balanced-sum (btree (btree-split-index n)) (take (btree-split-index n) ts))) (width (balanced-sum (btree (n - btree-split-index n)) (drop (btree-split-index n) ts))))
-width-sum-step n ts h = ap width (fold-step _⊕_ 𝟙 n h ts)
 
 -- LISTS
 

@@ -4,15 +4,15 @@ use mathlib.Core.Bool.{Bool, true, false}
 use mathlib.Core.List.{List, _∷_, _++_}
 use mathlib.Core.Logic.{_⊎_, inl, inr}
 use mathlib.Core.Option.{Option, none, some, Option·none-ne-some}
-use Prim.Native.Nat.{ℕ, _+_, _-_, _/_, _≤_}
+use Prim.Native.Nat.{ℕ, _+_, _-_}
 use native.Mathlib.Omega.{arith}
-use lib.ListN.{length, drop, length-append, length-drop}
+use lib.ListN.{length, drop, length-append}
 use lib.Seq.{drop-append-seam, drop-drop}
 use Rattle.model.specs.Options.{pick, when, mapO, bindO}
 use Rattle.model.specs.Structural.{SValue}
 use Rattle.model.specs.ValueFiles.{Rec, Reader, made}
 use Rattle.model.specs.Laws.ValueFiles.{Sound}
-use Rattle.value.specs.Model.{rows, length-rows}
+use Rattle.value.specs.Model.{rows}
 use Rattle.told.specs.Forms.{rows-from}
 
 -- what was read from record v on, as f tells it, and the record after it
@@ -24,11 +24,6 @@ seen f g v = mapO (λ x. (f (x .0), v + length (g (x .0))))
 module _ {A : Type 0} (P : A → Type 0) (g : A → List Rec) (f : Reader A) (sound : Sound P g f) (val : List ℕ) (v : ℕ) (x : A × List Rec) (h : f (rows-from val v) ≡ some x) where
   behind : x .1 ≡ rows-from val (v + length (g (x .0)))
   behind = sym (ap (drop (length (g (x .0)))) (sound (rows-from val v) x h .back) ∙ drop-append-seam (g (x .0)) (x .1)) ∙ drop-drop (length (g (x .0))) v (rows val)
-
-  pub ends-inside : v ≤ length val / 36 → v + length (g (x .0)) ≤ length val / 36
-  ends-inside l =
-      let e : length (rows val) - v ≡ length (g (x .0)) + length (x .1) = sym (length-drop v (rows val)) ∙ ap length (sound (rows-from val v) x h .back) ∙ length-append (g (x .0)) (x .1) in
-      omega (arith, length-rows val)
 
 -- ONE READER AND ANOTHER
 

@@ -34,9 +34,9 @@
  * any number of threads at once.
  *
  * Stack: lend each of them 128 KiB. That is measured, not proved. Up to 24 KiB are for a table; the rest grows with the type's depth and,
- * except for frames, with the logarithm of the parts at each level. The most that was found on x86-64: 90 KiB for lower and
- * write_shape and 77 for reconstruct, with 31 tuples of 33 parts inside each other; 51 for write_frame and part_edit, with 31
- * lists inside each other; 49 for read_frame and part_read, with 15 enums of 60 variants.
+ * except for frames, with the logarithm of the parts at each level. The most that was found on x86-64: 95 KiB for lower and
+ * write_shape and 84 for reconstruct, with 31 tuples of 33 parts inside each other; 55 for write_frame and part_edit, with 31
+ * lists inside each other; 53 for read_frame and part_read, with 15 enums of 60 variants.
  */
 #ifndef NIEGLUK_H
 #define NIEGLUK_H

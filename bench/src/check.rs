@@ -3,44 +3,66 @@
 
 use crate::plain;
 
-fn bytes<'a>(fields: &mut impl Iterator<Item = &'a str>) -> Vec<u8> {
-    let n: usize = fields.next().unwrap().parse().unwrap();
-    let digits = fields.next().unwrap();
-    assert_eq!(digits.len(), 2 * n);
-    (0..n).map(|i| u8::from_str_radix(&digits[2 * i..2 * i + 2], 16).unwrap()).collect()
+/// The bytes of a case before its files: entry, number, room and five lengths.
+const HEAD: usize = 20;
+
+/// A number of three bytes, the highest first.
+fn number(bytes: &[u8]) -> usize {
+    bytes.iter().fold(0, |n, &b| n << 8 | usize::from(b))
+}
+
+struct Case<'a> {
+    entry: u8,
+    refusal: u32,
+    room: usize,
+    /// Type, file, path, value, result.
+    files: [&'a [u8]; 5],
+}
+
+/// The first case, and what is behind it.
+fn take(bytes: &[u8]) -> (Case<'_>, &[u8]) {
+    let (head, mut rest) = bytes.split_at(HEAD);
+    let mut files = [&rest[..0]; 5];
+    for (i, file) in files.iter_mut().enumerate() {
+        let at = 5 + 3 * i;
+        (*file, rest) = rest.split_at(number(&head[at..at + 3]));
+    }
+    (Case { entry: head[0], refusal: u32::from(head[1]), room: number(&head[2..5]), files }, rest)
 }
 
 /// Is the case answered as recorded?
-fn right(line: &str) -> bool {
-    let mut fields = line.split(' ');
-    let entry: usize = fields.next().unwrap().parse().unwrap();
-    let count = [1, 2, 2, 2, 2, 3, 4][entry - 1];
-    let args: Vec<Vec<u8>> = (0..count).map(|_| bytes(&mut fields)).collect();
-    let mut number = || -> usize { fields.next().unwrap().parse().unwrap() };
-    let (room, refusal) = (number(), number() as u32);
-    let result = bytes(&mut fields);
-    let before = if entry == 7 { args[1].clone() } else { vec![0xa5; room] };
+fn right(case: &Case) -> bool {
+    let [ty, file, path, value, result] = case.files;
+    let before = if case.entry == 7 { file.to_vec() } else { vec![0xa5; case.room] };
     let mut lent = before.clone();
     let out = &mut lent[..];
-    let told = match entry {
-        1 => plain::lower(&args[0], out),
-        2 => plain::write_shape(&args[0], &args[1], out),
-        3 => plain::reconstruct(&args[0], &args[1], out),
-        4 => plain::write_frame(&args[0], &args[1], out),
-        5 => plain::read_frame(&args[0], &args[1], out),
-        6 => plain::part_read(&args[0], &args[1], &args[2], out),
-        _ => plain::part_edit(&args[0], out, &args[2], &args[3]),
+    let told = match case.entry {
+        1 => plain::lower(ty, out),
+        2 => plain::write_shape(ty, file, out),
+        3 => plain::reconstruct(ty, file, out),
+        4 => plain::write_frame(ty, file, out),
+        5 => plain::read_frame(ty, file, out),
+        6 => plain::part_read(ty, file, path, out),
+        _ => plain::part_edit(ty, out, path, value),
     };
     let mut after = before;
-    after[..result.len()].copy_from_slice(&result);
-    told == if refusal == 0 { Ok(result.len()) } else { Err(refusal) } && lent == after
+    after[..result.len()].copy_from_slice(result);
+    told == if case.refusal == 0 { Ok(result.len()) } else { Err(case.refusal) } && lent == after
 }
 
-/// Prints the lines that differ, and how many there are.
+/// Prints how many cases there are, and which differ.
 pub fn check(file: &str) -> bool {
-    let text = std::fs::read_to_string(file).expect("the file of cases can be read");
-    let wrong: Vec<&str> = text.lines().filter(|line| !right(line)).collect();
-    wrong.iter().for_each(|line| println!("{line}"));
-    println!("{} cases, {} differ", text.lines().count(), wrong.len());
-    wrong.is_empty()
+    let bytes = std::fs::read(file).expect("the file can be read");
+    let (count, mut rest) = bytes.split_at(3);
+    let mut differ = 0;
+    for i in 0..number(count) {
+        let (case, behind) = take(rest);
+        if !right(&case) {
+            println!("case {i} of entry {} differs", case.entry);
+            differ += 1;
+        }
+        rest = behind;
+    }
+    println!("{} cases, {differ} differ, {} bytes left over", number(count), rest.len());
+    differ == 0 && rest.is_empty()
 }

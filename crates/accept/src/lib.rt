@@ -1,10 +1,10 @@
 // The acceptance of frames (01, 'Frame'; ported from no Rust file): rows 11 and 12, and how many records the value has that a frame says.
 // A type and a frame are walked together, so that it is known before anything is written whether the value file fits.
 use array::btree_split_index;
-use bits::get_bit;
-use bits::is_zero_run;
 use num::Bound;
 use num::NonZeroPow2Usize;
+use reader::bit_at;
+use reader::zeros_at;
 use record::Form;
 use record::form_of;
 use reply::Refusal;
@@ -202,13 +202,13 @@ fn see_sum(
 {
     if n == 1 {
         let last = bit + widths[at];
-        if is_zero_run(frame, last, end - last) {
+        if zeros_at(frame, last, end - last) {
             return see_record(ty, ends, widths, at, level, frame, bit);
         }
         return Seen::Stray;
     }
     let few = btree_split_index(n);
-    if get_bit(frame, bit) {
+    if bit_at(frame, bit) {
         let others = n - few;
         return see_sum(
             ty,
@@ -241,7 +241,7 @@ fn see_block(
     requires { ⌜ Inside (now frame) bit (1 + n * width (standing level (now ty) at)) ⌝ }
     ensures { λ r. ⌜ r ≡ answer (seen-block level (now (ty .entry)) n at (now (frame .entry)) bit) ⌝ }
 {
-    if get_bit(frame, bit) {
+    if bit_at(frame, bit) {
         return see_row(
             ty,
             ends,
@@ -254,7 +254,7 @@ fn see_block(
             bit + 1,
         );
     }
-    if is_zero_run(frame, bit + 1, n * widths[at]) {
+    if zeros_at(frame, bit + 1, n * widths[at]) {
         return Seen::Of(0);
     }
     Seen::Stray
@@ -303,7 +303,7 @@ pub fn accept(ty: &[u8], ends: &[usize], widths: &[usize], frame: &[u8]) -> Acce
     if len != (width + 7) / 8 {
         return Accepted::Refused(Refusal::FrameLength);
     }
-    if !is_zero_run(frame, width, len * 8 - width) {
+    if !zeros_at(frame, width, len * 8 - width) {
         return Accepted::Refused(Refusal::StrayBit);
     }
     match see_record(ty, ends, widths, 0, LEVELS, frame, 0) {

@@ -1,8 +1,8 @@
 // Paths into a frame (01, 'Part read and part edit'; ported from no Rust file): rows 13 and 14, and where a part stands.
 // A path is followed in the type and in the frame at once; nothing of the value is read but the tags on the way.
-use bits::get_bit;
 use num::Bound;
 use num::NonZeroPow2Usize;
+use reader::bit_at;
 use reply::Refusal;
 use types::Head;
 use types::Rec;
@@ -91,7 +91,7 @@ fn element_of(
     requires { ⌜ Inside (now frame) bit (wide-list (bound-log2 (bound .0) - 1) (getD (now widths) at 0)) ⌝ }
     ensures { λ r. ⌜ r ≡ listed level (now (widths .entry)) bound at (now (frame .entry)) bit i ⌝ }
 {
-    let present = get_bit(frame, bit);
+    let present = bit_at(frame, bit);
     match bound.checked_div2() {
         Bound::Not => {
             if present {

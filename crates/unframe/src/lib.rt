@@ -1,10 +1,10 @@
 // The reader of a frame into a value file (01, 'Frame'; ported from no Rust file): a type and a frame are walked together, and the value's records are written.
 // The frame was accepted before, so nothing is tested again.
 use array::btree_split_index;
-use bits::get_bit;
-use bits::read_uint;
 use num::Bound;
 use num::NonZeroPow2Usize;
+use reader::bit_at;
+use reader::uint_at;
 use record::Form;
 use record::form_of;
 use record::write_mark;
@@ -54,7 +54,7 @@ fn bit_number(frame: &[u8], bit: usize) -> usize
     requires { ⌜ Inside (now frame) bit 1 ⌝ }
     ensures { λ r. ⌜ r ≡ bit-number (tag-at (now (frame .entry)) bit) ⌝ }
 {
-    if get_bit(frame, bit) { 1 } else { 0 }
+    if bit_at(frame, bit) { 1 } else { 0 }
 }
 
 // The one of the n choices from record `at` on that the tags from `bit` on lead to.
@@ -72,7 +72,7 @@ pub fn find_choice(ends: &[usize], at: usize, n: usize, frame: &[u8], bit: usize
         };
     }
     let few = btree_split_index(n);
-    if get_bit(frame, bit) {
+    if bit_at(frame, bit) {
         let others = n - few;
         let other = find_choice(ends, hop(ends, at, few), others, frame, bit + 1);
         return Choice {
@@ -110,7 +110,7 @@ pub fn write_record(
         }
         Form::Integer(w) => {
             write_mark(out, h, 0);
-            read_uint(frame, bit, &mut out[4..RECORD], w);
+            uint_at(frame, bit, &mut out[4..RECORD], w);
             RECORD
         }
         Form::Product(parts, n) => {
@@ -224,7 +224,7 @@ fn write_block(
     requires { ⌜ ReadyNumbered (block level (now ty) n at (now frame) bit) (now out) ⌝ }
     ensures { λ r. ⌜ PlacedNumbered (block level (now (ty .entry)) n at (now (frame .entry)) bit) (now (out .entry)) (now (out .exit)) r ⌝ }
 {
-    if get_bit(frame, bit) {
+    if bit_at(frame, bit) {
         return Numbered {
             number: n,
             len: write_row(

@@ -36,10 +36,10 @@ use Rattle.accept.proofs.both.Reads as both-reads
 use Rattle.accept.proofs.is_plain.Reads as is-plain-reads
 use Rattle.accept.proofs.so_many.Reads as so-many-reads
 use Rattle.array.proofs.btree_split_index.Reads as btree-split-index-reads
-use Rattle.bits.proofs.get_bit.Reads as get-bit-reads
-use Rattle.bits.proofs.is_zero_run.Reads as is-zero-run-reads
 use Rattle.num.proofs.NonZeroPow2Usize.checked_div2.Reads as checked-div2-reads
 use Rattle.num.proofs.NonZeroPow2Usize.get.Reads as get-reads
+use Rattle.reader.proofs.bit_at.Reads as bit-at-reads
+use Rattle.reader.proofs.zeros_at.Reads as zeros-at-reads
 use Rattle.record.proofs.form_of.Reads as form-of-reads
 use Rattle.told.proofs.hop.Reads as hop-reads
 use Rattle.types.proofs.head_at.Reads as head-at-reads
@@ -101,7 +101,7 @@ module _ (t : ℕ) where
   see-sum-below = and 4 see-sum-kinds.ps (falls 4 see-sum-kinds.ps _<_ μ-see-sum t) see-sum.Pre
 
   abbrev see-block-calls : see-block-lts.Claims
-  see-block-calls = (get-bit-reads.Asked, get-bit-reads.Learnt, see-row-below, see-row.Post, is-zero-run-reads.Asked, is-zero-run-reads.Learnt)
+  see-block-calls = (bit-at-reads.Asked, bit-at-reads.Learnt, see-row-below, see-row.Post, zeros-at-reads.Asked, zeros-at-reads.Learnt)
 
   abbrev see-list-calls : see-list-lts.Claims
   see-list-calls = (checked-div2-reads.Asked, checked-div2-reads.Learnt, see-block-below, see-block.Post, get-reads.Asked, get-reads.Learnt, see-list-below, see-list.Post, both-reads.Asked, both-reads.Learnt)
@@ -113,7 +113,7 @@ module _ (t : ℕ) where
   see-row-calls = (is-plain-reads.Asked, is-plain-reads.Learnt, so-many-reads.Asked, so-many-reads.Learnt, see-record-below, see-record.Post, both-reads.Asked, both-reads.Learnt, after-part-reads.Asked, after-part-reads.Learnt)
 
   abbrev see-sum-calls : see-sum-lts.Claims
-  see-sum-calls = (is-zero-run-reads.Asked, is-zero-run-reads.Learnt, see-record-below, see-record.Post, btree-split-index-reads.Asked, btree-split-index-reads.Learnt, get-bit-reads.Asked, get-bit-reads.Learnt, hop-reads.Asked, hop-reads.Learnt, see-sum-below, see-sum.Post)
+  see-sum-calls = (zeros-at-reads.Asked, zeros-at-reads.Learnt, see-record-below, see-record.Post, btree-split-index-reads.Asked, btree-split-index-reads.Learnt, bit-at-reads.Asked, bit-at-reads.Learnt, hop-reads.Asked, hop-reads.Learnt, see-sum-below, see-sum.Post)
 
   see-block-see-row-requires : see-block-lts.Need-see-row-requires see-block-calls see-block-at see-block.Post
   see-block-see-row-requires c κs =
@@ -278,8 +278,8 @@ module _ (t : ℕ) where
       let e = c .before .before .before .if1 .taken in
       (omega arith, (one-given p1 e, (p2, one-inside p1 e p3)))
 
-  see-sum-get-bit-requires : see-sum-lts.Need-get-bit-requires see-sum-calls see-sum-at see-sum.Post
-  see-sum-get-bit-requires c κs =
+  see-sum-bit-at-requires : see-sum-lts.Need-bit-at-requires see-sum-calls see-sum-at see-sum.Post
+  see-sum-bit-at-requires c κs =
       let m = c .before .before .before .before .before .before .pre .0 in
       let p0 = c .before .before .before .before .before .before .pre .1 .0 in
       let p1 = c .before .before .before .before .before .before .pre .1 .1 .0 in
@@ -361,7 +361,7 @@ module _ (t : ℕ) where
       let o = s .some in
       let l = s .less in
       let u = p0 .1 in
-      sum-right _ _ _ _ _ _ _ s _ (c .before .before .before .get-bit .ensures) _ _ (c .before .hop .ensures) (c .before .before .if3 .taken) (c .see-sum .ensures)
+      sum-right _ _ _ _ _ _ _ s _ (c .before .before .before .bit-at .ensures) _ _ (c .before .hop .ensures) (c .before .before .if3 .taken) (c .see-sum .ensures)
 
   see-sum-add-see-sum-2 : see-sum-lts.Need-add-see-sum-2 see-sum-calls see-sum-at see-sum.Post
   see-sum-add-see-sum-2 c =
@@ -404,7 +404,7 @@ module _ (t : ℕ) where
       let o = s .some in
       let l = s .less in
       let u = p0 .1 in
-      sum-left _ _ _ _ _ _ _ s _ (c .before .before .get-bit .ensures) _ (c .before .if3 .left) (c .see-sum2 .ensures)
+      sum-left _ _ _ _ _ _ _ s _ (c .before .before .bit-at .ensures) _ (c .before .if3 .left) (c .see-sum2 .ensures)
 
 pub +see-block+see-list+see-record+see-row+see-sum-spec : {M : Type 1} → statement M
 +see-block+see-list+see-record+see-row+see-sum-spec =
@@ -413,4 +413,4 @@ pub +see-block+see-list+see-record+see-row+see-sum-spec : {M : Type 1} → state
     (λ t. see-list-lts.spec (see-list-calls t) (see-list-at t) see-list.Post (λ c κs. search steps) (λ c. search steps) (see-list-see-block-requires t) (λ c. search steps) (λ c κs. search steps) (see-list-add-next t) (λ c. search steps) (λ c. search steps) (see-list-mul-next-2 t) (see-list-add-next-2 t) (see-list-see-block-requires-2 t) (see-list-see-list-requires t) (λ c κs. search steps) (λ c. search steps) (see-list-returns-2 t))
     (λ t. see-record-lts.spec (see-record-calls t) (see-record-at t) see-record.Post (λ c κs. search steps) (λ c κs. search steps) (λ c. search steps) (λ c. search steps) (λ c. search steps) (λ c. search steps) (λ c. search steps) (λ c. search steps) (see-record-see-row-requires t) (λ c κs. search steps) (λ c. search steps) (λ c. search steps) (λ c. search steps) (λ c. search steps) (λ c. search steps) (λ c. search steps) (see-record-see-sum-requires t) (λ c κs. search steps) (λ c. search steps) (λ c. search steps) (λ c. search steps) (see-record-see-list-requires t) (λ c κs. search steps) (λ c. search steps) (λ c. search steps) (λ c. search steps) (see-record-see-row-requires-2 t) (λ c. search steps) (λ c. search steps) (λ c. search steps) (λ c. search steps) (λ c. search steps) (λ c. search steps) (λ c. search steps))
     (λ t. see-row-lts.spec (see-row-calls t) (see-row-at t) see-row.Post Inv-loop μ-loop (λ c κs. search needs) (λ c κs. search needs) (λ c. search steps) (λ c. search steps) (see-row-see-record-requires t) (λ c κs. search steps) (λ c. search steps) (λ c. search steps) (λ c. search steps) (see-row-after-part-requires t) (λ c. search steps) (λ c. search steps) (λ c. search steps) (λ c. search steps))
-    (λ t. see-sum-lts.spec (see-sum-calls t) (see-sum-at t) see-sum.Post (λ c. search steps) (λ c. search steps) (λ c. search steps) (λ c. search steps) (λ c κs. search steps) (see-sum-see-record-requires t) (λ c. search steps) (λ c. search steps) (λ c κs. search steps) (see-sum-get-bit-requires t) (see-sum-sub-others t) (see-sum-hop-requires t) (see-sum-add-see-sum t) (see-sum-see-sum-requires t) (see-sum-returns-3 t) (see-sum-add-see-sum-2 t) (see-sum-see-sum-requires-2 t) (see-sum-returns-4 t))
+    (λ t. see-sum-lts.spec (see-sum-calls t) (see-sum-at t) see-sum.Post (λ c. search steps) (λ c. search steps) (λ c. search steps) (λ c. search steps) (λ c κs. search steps) (see-sum-see-record-requires t) (λ c. search steps) (λ c. search steps) (λ c κs. search steps) (see-sum-bit-at-requires t) (see-sum-sub-others t) (see-sum-hop-requires t) (see-sum-add-see-sum t) (see-sum-see-sum-requires t) (see-sum-returns-3 t) (see-sum-add-see-sum-2 t) (see-sum-see-sum-requires-2 t) (see-sum-returns-4 t))

@@ -18,19 +18,19 @@ returns-2 : tie.Need-returns-2
 returns-2 c =
     let a = c .before .before .before .before .before .before .before .before .args in
     let p = c .before .before .before .before .before .before .before .before .pre in
-    stray-tail (p .0) (p .1 .0) (a .frame .now) _ refl (c .before .before .if1 .left) _ (c .before .is-zero-run .ensures) (c .if2 .taken)
+    stray-tail (p .0) (p .1 .0) (a .frame .now) _ refl (c .before .before .if1 .left) _ (c .before .zeros-at .ensures) (c .if2 .taken)
 
 returns-3 : tie.Need-returns-3
 returns-3 c =
     let a = c .before .before .before .before .before .before .before .before .before .before .before .args in
     let p = c .before .before .before .before .before .before .before .before .before .before .before .pre in
-    stray-inside (p .0) (p .1 .0) (a .frame .now) _ refl (c .before .before .before .before .before .if1 .left) _ (c .before .before .before .before .is-zero-run .ensures) (c .before .before .before .if2 .left) _ (c .before .before .see-record .ensures) (c .enum-told .given .1)
+    stray-inside (p .0) (p .1 .0) (a .frame .now) _ refl (c .before .before .before .before .before .if1 .left) _ (c .before .before .before .before .zeros-at .ensures) (c .before .before .before .if2 .left) _ (c .before .before .see-record .ensures) (c .enum-told .given .1)
 
 returns-4 : tie.Need-returns-4
 returns-4 c =
     let a = c .before .before .before .before .before .before .before .before .before .before .before .before .args in
     let p = c .before .before .before .before .before .before .before .before .before .before .before .before .pre in
-    records-seen (p .0) (p .1 .0) (a .frame .now) _ refl (c .before .before .before .before .before .before .if1 .left) _ (c .before .before .before .before .before .is-zero-run .ensures) (c .before .before .before .before .if2 .left) _ (c .before .before .before .see-record .ensures) _ (p .1 .1) (c .before .n .given .1)
+    records-seen (p .0) (p .1 .0) (a .frame .now) _ refl (c .before .before .before .before .before .before .if1 .left) _ (c .before .before .before .before .before .zeros-at .ensures) (c .before .before .before .before .if2 .left) _ (c .before .before .before .see-record .ensures) _ (p .1 .1) (c .before .n .given .1)
 
 pub accept-spec : {M : Type 1} → statement M
 accept-spec =

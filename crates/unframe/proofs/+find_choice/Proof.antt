@@ -12,7 +12,7 @@ use Rattle.unframe.proofs.find_choice.Reads as find-choice
 use Rattle.unframe.proofs.find_choice.Kinds as find-choice-kinds
 use Rattle.unframe.proofs.+find_choice.Lts-find_choice as find-choice-lts
 use Rattle.array.proofs.btree_split_index.Reads as btree-split-index-reads
-use Rattle.bits.proofs.get_bit.Reads as get-bit-reads
+use Rattle.reader.proofs.bit_at.Reads as bit-at-reads
 use Rattle.told.proofs.hop.Reads as hop-reads
 use Rattle.unframe.proofs.+find_choice.{statement}
 use Rattle.unframe.proofs.+find_choice.Tie.{close}
@@ -28,7 +28,7 @@ module _ (t : ℕ) where
   find-choice-below = and 2 find-choice-kinds.ps (falls 2 find-choice-kinds.ps _<_ μ-find-choice t) find-choice.Pre
 
   abbrev calls : find-choice-lts.Claims
-  calls = (btree-split-index-reads.Asked, btree-split-index-reads.Learnt, get-bit-reads.Asked, get-bit-reads.Learnt, hop-reads.Asked, hop-reads.Learnt, find-choice-below, find-choice.Post)
+  calls = (btree-split-index-reads.Asked, btree-split-index-reads.Learnt, bit-at-reads.Asked, bit-at-reads.Learnt, hop-reads.Asked, hop-reads.Learnt, find-choice-below, find-choice.Post)
 
   split : (c : find-choice-lts.After-btree-split-index calls find-choice-at find-choice.Post) → Shares (c .before .before .before .before .args .n) (c .btree-split-index .result)
   split c = shares (c .btree-split-index .ensures) (c .before .before .before .before .pre .1 .0 .0) (c .before .if1 .left)
@@ -36,8 +36,8 @@ module _ (t : ℕ) where
   returns : find-choice-lts.Need-returns calls find-choice-at find-choice.Post
   returns c = let a = c .before .before .before .args in chosen-only (a .ends .now) (a .at) (a .n) (a .frame .now) (a .bit) (c .if1 .taken)
 
-  get-bit-requires : find-choice-lts.Need-get-bit-requires calls find-choice-at find-choice.Post
-  get-bit-requires c κs = let e = higher (split c) in let i = c .before .before .before .before .pre .1 .1 .1 .0 in omega arith
+  bit-at-requires : find-choice-lts.Need-bit-at-requires calls find-choice-at find-choice.Post
+  bit-at-requires c κs = let e = higher (split c) in let i = c .before .before .before .before .pre .1 .1 .1 .0 in omega arith
 
   sub-others : find-choice-lts.Need-sub-others calls find-choice-at find-choice.Post
   sub-others c = let l = split (c .before .before) .less in omega arith
@@ -63,7 +63,7 @@ module _ (t : ℕ) where
   returns-2 : find-choice-lts.Need-returns-2 calls find-choice-at find-choice.Post
   returns-2 c =
       let a = c .before .before .before .before .before .before .before .before .before .args in
-      chosen-right (a .ends .now) (a .at) (a .n) (a .frame .now) (a .bit) (split (c .before .before .before .before .before)) (sym (c .before .before .before .before .get-bit .ensures) ∙ c .before .before .before .if2 .taken) (c .before .before .hop .ensures) (c .before .find-choice .ensures)
+      chosen-right (a .ends .now) (a .at) (a .n) (a .frame .now) (a .bit) (split (c .before .before .before .before .before)) (sym (c .before .before .before .before .bit-at .ensures) ∙ c .before .before .before .if2 .taken) (c .before .before .hop .ensures) (c .before .find-choice .ensures)
 
   add-t11 : find-choice-lts.Need-add-t11 calls find-choice-at find-choice.Post
   add-t11 c =
@@ -93,7 +93,7 @@ module _ (t : ℕ) where
   returns-3 : find-choice-lts.Need-returns-3 calls find-choice-at find-choice.Post
   returns-3 c =
       let a = c .before .before .before .before .before .before .before .args in
-      chosen-left (a .ends .now) (a .at) (a .n) (a .frame .now) (a .bit) (split (c .before .before .before)) (sym (c .before .before .get-bit .ensures) ∙ c .before .if2 .left) (c .find-choice2 .ensures)
+      chosen-left (a .ends .now) (a .at) (a .n) (a .frame .now) (a .bit) (split (c .before .before .before)) (sym (c .before .before .bit-at .ensures) ∙ c .before .if2 .left) (c .find-choice2 .ensures)
 
 pub +find-choice-spec : {M : Type 1} → statement M
-+find-choice-spec = close μ-find-choice λ t. find-choice-lts.spec (calls t) (find-choice-at t) find-choice.Post (returns t) (λ c κs. search needs) (get-bit-requires t) (sub-others t) (hop-requires t) (add-find-choice t) (find-choice-requires t) (add-t11 t) (returns-2 t) (add-find-choice-2 t) (find-choice-requires-2 t) (returns-3 t)
++find-choice-spec = close μ-find-choice λ t. find-choice-lts.spec (calls t) (find-choice-at t) find-choice.Post (returns t) (λ c κs. search needs) (bit-at-requires t) (sub-others t) (hop-requires t) (add-find-choice t) (find-choice-requires t) (add-t11 t) (returns-2 t) (add-find-choice-2 t) (find-choice-requires-2 t) (returns-3 t)

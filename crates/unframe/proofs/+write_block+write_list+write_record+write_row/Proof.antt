@@ -41,10 +41,10 @@ use Rattle.unframe.proofs.+write_block+write_list+write_record+write_ro
 use Rattle.unframe.proofs.write_row.Reads as write-row
 use Rattle.unframe.proofs.write_row.Kinds as write-row-kinds
 use Rattle.unframe.proofs.+write_block+write_list+write_record+write_row.Lts-write_row as write-row-lts
-use Rattle.bits.proofs.get_bit.Reads as get-bit-reads
-use Rattle.bits.proofs.read_uint.Reads as read-uint-reads
 use Rattle.num.proofs.NonZeroPow2Usize.checked_div2.Reads as checked-div2-reads
 use Rattle.num.proofs.NonZeroPow2Usize.get.Reads as get-reads
+use Rattle.reader.proofs.bit_at.Reads as bit-at-reads
+use Rattle.reader.proofs.uint_at.Reads as uint-at-reads
 use Rattle.record.proofs.form_of.Reads as form-of-reads
 use Rattle.record.proofs.write_mark.Reads as write-mark-reads
 use Rattle.types.proofs.head_at.Reads as head-at-reads
@@ -98,13 +98,13 @@ module _ (t : ℕ) where
   write-row-below = and 5 write-row-kinds.ps (falls 5 write-row-kinds.ps _<_ μ-write-row t) write-row.Pre
 
   abbrev write-block-calls : write-block-lts.Claims
-  write-block-calls = (get-bit-reads.Asked, get-bit-reads.Learnt, write-row-below, write-row.Post)
+  write-block-calls = (bit-at-reads.Asked, bit-at-reads.Learnt, write-row-below, write-row.Post)
 
   abbrev write-list-calls : write-list-lts.Claims
   write-list-calls = (checked-div2-reads.Asked, checked-div2-reads.Learnt, write-block-below, write-block.Post, get-reads.Asked, get-reads.Learnt, write-list-below, write-list.Post)
 
   abbrev write-record-calls : write-record-lts.Claims
-  write-record-calls = (head-at-reads.Asked, head-at-reads.Learnt, form-of-reads.Asked, form-of-reads.Learnt, bit-number-reads.Asked, bit-number-reads.Learnt, write-mark-reads.Asked, write-mark-reads.Learnt, read-uint-reads.Asked, read-uint-reads.Learnt, write-row-below, write-row.Post, find-choice-reads.Asked, find-choice-reads.Learnt, write-record-below, write-record.Post, write-list-below, write-list.Post)
+  write-record-calls = (head-at-reads.Asked, head-at-reads.Learnt, form-of-reads.Asked, form-of-reads.Learnt, bit-number-reads.Asked, bit-number-reads.Learnt, write-mark-reads.Asked, write-mark-reads.Learnt, uint-at-reads.Asked, uint-at-reads.Learnt, write-row-below, write-row.Post, find-choice-reads.Asked, find-choice-reads.Learnt, write-record-below, write-record.Post, write-list-below, write-list.Post)
 
   abbrev write-row-calls : write-row-lts.Claims
   write-row-calls = (write-record-below, write-record.Post, after-part-reads.Asked, after-part-reads.Learnt)
@@ -159,8 +159,8 @@ module _ (t : ℕ) where
     payload-framed : {n : ℕ} → c .form-of .result ≡ form.Payload n → PayloadFramed n (start c .args .level) (start c .args .ty .now) (start c .args .ends .now) (start c .args .at)
     payload-framed e = as-payload (start c .pre .1 .0) (c .before .head-at .ensures .0) (c .before .head-at .ensures .1) (c .form-of .ensures) e
 
-  write-block-get-bit-requires : write-block-lts.Need-get-bit-requires write-block-calls write-block-at write-block.Post
-  write-block-get-bit-requires c κs = let a = c .before .before .before .before .before .args in
+  write-block-bit-at-requires : write-block-lts.Need-bit-at-requires write-block-calls write-block-at write-block.Post
+  write-block-bit-at-requires c κs = let a = c .before .before .before .before .before .args in
       let i = c .before .before .before .before .before .pre .1 .1 .1 .0 .0 in
       let e = width-block (a .n) (structural.standing (a .level) (a .ty .now) (a .at)) in
       omega arith
@@ -178,13 +178,13 @@ module _ (t : ℕ) where
       let j = g .1 .1 .1 .0 .1 in
       let e = width-block (a .n) (structural.standing (a .level) (a .ty .now) (a .at)) in
       let f = width-copies (a .level) (a .ty .now) (a .n) (a .at) in
-      (omega arith, (given-copies (a .n) (g .1 .0), (g .1 .1 .0, ((omega arith, omega arith), block-ready (a .level) (a .ty .now) (a .n) (a .at) (a .frame .now) (a .bit) (g .1 .1 .1 .1) (sym (c .before .before .get-bit .ensures) ∙ c .before .if1 .taken)))))
+      (omega arith, (given-copies (a .n) (g .1 .0), (g .1 .1 .0, ((omega arith, omega arith), block-ready (a .level) (a .ty .now) (a .n) (a .at) (a .frame .now) (a .bit) (g .1 .1 .1 .1) (sym (c .before .before .bit-at .ensures) ∙ c .before .if1 .taken)))))
 
   write-block-returns : write-block-lts.Need-returns write-block-calls write-block-at write-block.Post
-  write-block-returns c = let a = c .before .before .before .before .before .before .before .before .before .before .before .args in block-placed (a .level) (a .ty .now) (a .n) (a .at) (a .frame .now) (a .bit) (sym (c .before .before .before .before .before .get-bit .ensures) ∙ c .before .before .before .before .if1 .taken) (c .before .before .write-row .ensures)
+  write-block-returns c = let a = c .before .before .before .before .before .before .before .before .before .before .before .args in block-placed (a .level) (a .ty .now) (a .n) (a .at) (a .frame .now) (a .bit) (sym (c .before .before .before .before .before .bit-at .ensures) ∙ c .before .before .before .before .if1 .taken) (c .before .before .write-row .ensures)
 
   write-block-returns-2 : write-block-lts.Need-returns-2 write-block-calls write-block-at write-block.Post
-  write-block-returns-2 c = let a = c .before .before .before .before .before .before .before .args in block-missing (a .level) (a .ty .now) (a .n) (a .at) (a .frame .now) (a .bit) (a .out .now) (sym (c .before .get-bit .ensures) ∙ c .if1 .left)
+  write-block-returns-2 c = let a = c .before .before .before .before .before .before .before .args in block-missing (a .level) (a .ty .now) (a .n) (a .at) (a .frame .now) (a .bit) (a .out .now) (sym (c .before .bit-at .ensures) ∙ c .if1 .left)
 
   write-list-write-block-requires : write-list-lts.Need-write-block-requires write-list-calls write-list-at write-list.Post
   write-list-write-block-requires c κs = let a = c .before .before .before .before .before .before .before .before .before .args in
@@ -274,11 +274,11 @@ module _ (t : ℕ) where
       let l = c .before .before .before .before .before .before .before .before .before .before .before .pre .1 .1 .1 .0 .0 in
       (one-room (i .same (a .frame .now) (a .bit) (omega arith)) (c .before .before .before .before .before .before .before .before .before .before .before .pre .1 .1 .1 .1), (c .before .before .before .before .before .head-at .ensures .1, i .marks))
 
-  write-record-sub-read-uint : write-record-lts.Need-sub-read-uint write-record-calls write-record-at write-record.Post
-  write-record-sub-read-uint c = omega arith
+  write-record-sub-uint-at : write-record-lts.Need-sub-uint-at write-record-calls write-record-at write-record.Post
+  write-record-sub-uint-at c = omega arith
 
-  write-record-part-read-uint-end : write-record-lts.Need-part-read-uint-end write-record-calls write-record-at write-record.Post
-  write-record-part-read-uint-end c = let a = c .before .before .before .before .before .before .before .before .before .before .before .before .before .before .args in
+  write-record-part-uint-at-end : write-record-lts.Need-part-uint-at-end write-record-calls write-record-at write-record.Post
+  write-record-part-uint-at-end c = let a = c .before .before .before .before .before .before .before .before .before .before .before .before .before .before .args in
       let i = integer-framed (c .before .before .before .before .before .before .before) (c .before .before .before .before .before .w .given .1) in
       let w = i .wide in
       let l = c .before .before .before .before .before .before .before .before .before .before .before .before .before .before .pre .1 .1 .1 .0 .0 in
@@ -287,8 +287,8 @@ module _ (t : ℕ) where
       let m = head-length e (c .before .before .before .before .before .before .before .before .before .before .before .before .before .before .pre .1 .1 .1 .1) (c .before .before .write-mark2 .ensures ∙ ap (λ r. put (bytes r) (a .out .now)) (i .mark)) in
       omega arith
 
-  write-record-read-uint-requires : write-record-lts.Need-read-uint-requires write-record-calls write-record-at write-record.Post
-  write-record-read-uint-requires c κs = let a = c .before .before .before .before .before .before .before .before .before .before .before .before .before .before .before .args in
+  write-record-uint-at-requires : write-record-lts.Need-uint-at-requires write-record-calls write-record-at write-record.Post
+  write-record-uint-at-requires c κs = let a = c .before .before .before .before .before .before .before .before .before .before .before .before .before .before .before .args in
       let i = integer-framed (c .before .before .before .before .before .before .before .before) (c .before .before .before .before .before .before .w .given .1) in
       let w = i .wide in
       let l = c .before .before .before .before .before .before .before .before .before .before .before .before .before .before .before .pre .1 .1 .1 .0 .0 in
@@ -438,7 +438,7 @@ module _ (t : ℕ) where
       let i = integer-framed (c .before .before .before .before .before .before .before .before .before .before .before) (c .before .before .before .before .before .before .before .before .before .w .given .1) in
       let w = i .wide in
       let l = c .before .before .before .before .before .before .before .before .before .before .before .before .before .before .before .before .before .before .pre .1 .1 .1 .0 .0 in
-      integer-placed (i .same (a .frame .now) (a .bit) (omega arith)) (c .before .before .before .before .before .before .before .before .before .before .before .before .before .before .before .before .before .before .pre .1 .1 .1 .1) (c .before .before .before .before .before .before .write-mark2 .ensures ∙ ap (λ r. put (bytes r) (a .out .now)) (i .mark)) (c .before .before .read-uint .ensures)
+      integer-placed (i .same (a .frame .now) (a .bit) (omega arith)) (c .before .before .before .before .before .before .before .before .before .before .before .before .before .before .before .before .before .before .pre .1 .1 .1 .1) (c .before .before .before .before .before .before .write-mark2 .ensures ∙ ap (λ r. put (bytes r) (a .out .now)) (i .mark)) (c .before .before .uint-at .ensures)
 
   write-record-returns-4 : write-record-lts.Need-returns-4 write-record-calls write-record-at write-record.Post
   write-record-returns-4 c = marked-placed (product-framed (c .before .before .before .before .before .before .before .before .before .before .before) (c .before .before .before .before .before .before .before .before .before .parts .given .1) .same (c .before .before .before .before .before .before .before .before .before .before .before .before .before .before .before .before .before .before .args .frame .now) (c .before .before .before .before .before .before .before .before .before .before .before .before .before .before .before .before .before .before .args .bit)) (c .before .before .before .before .before .before .before .before .before .before .before .before .before .before .before .before .before .before .pre .1 .1 .1 .1) (c .before .before .before .before .before .before .write-row .ensures) (c .before .before .write-mark3 .ensures)
@@ -510,7 +510,7 @@ module _ (t : ℕ) where
 pub +write-block+write-list+write-record+write-row-spec : {M : Type 1} → statement M
 +write-block+write-list+write-record+write-row-spec =
     close μ-write-block μ-write-list μ-write-record μ-write-row
-    (λ t. write-block-lts.spec (write-block-calls t) (write-block-at t) write-block.Post (write-block-get-bit-requires t) (write-block-add-write-row t) (write-block-write-row-requires t) (λ c. search needs) (write-block-returns t) (write-block-returns-2 t))
+    (λ t. write-block-lts.spec (write-block-calls t) (write-block-at t) write-block.Post (write-block-bit-at-requires t) (write-block-add-write-row t) (write-block-write-row-requires t) (λ c. search needs) (write-block-returns t) (write-block-returns-2 t))
     (λ t. write-list-lts.spec (write-list-calls t) (write-list-at t) write-list.Post (λ c κs. search needs) (λ c. search needs) (write-list-write-block-requires t) (λ c. search needs) (λ c κs. search needs) (write-list-write-block-requires-2 t) (write-list-add-next t) (write-list-mul-next t) (write-list-shared-slice-read-next t) (write-list-mul-next-2 t) (write-list-add-next-2 t) (write-list-sub-write-list t) (write-list-part-write-list-start t) (λ c. search needs) (write-list-write-list-requires t) (write-list-add-t26 t) (write-list-add-t22 t) (λ c. search needs) (write-list-returns t) (λ c. search needs) (write-list-returns-2 t))
-    (λ t. write-record-lts.spec (write-record-calls t) (write-record-at t) write-record.Post (λ c κs. search needs) (λ c κs. search needs) (λ c. search needs) (λ c. search needs) (write-record-bit-number-requires t) (write-record-write-mark-requires t) (λ c. search needs) (write-record-write-mark-requires-2 t) (write-record-sub-read-uint t) (λ c. search needs) (write-record-part-read-uint-end t) (write-record-read-uint-requires t) (λ c. search needs) (write-record-add-write-row t) (write-record-sub-write-row t) (write-record-sub-write-row-2 t) (write-record-part-write-row-start t) (λ c. search needs) (write-record-write-row-requires t) (write-record-write-mark-requires-3 t) (write-record-add-result t) (λ c. search needs) (write-record-add-find-choice t) (write-record-find-choice-requires t) (write-record-sub-write-record t) (write-record-sub-write-record-2 t) (write-record-part-write-record-start t) (λ c. search needs) (write-record-write-record-requires t) (write-record-write-mark-requires-4 t) (write-record-add-result-2 t) (λ c. search needs) (write-record-add-write-list t) (write-record-sub-write-list t) (write-record-sub-write-list-2 t) (write-record-part-write-list-start t) (λ c. search needs) (write-record-write-list-requires t) (write-record-write-mark-requires-5 t) (write-record-add-result-3 t) (λ c. search needs) (write-record-add-write-row-2 t) (write-record-sub-write-row-3 t) (write-record-write-row-requires-2 t) (write-record-returns t) (λ c. search needs) (write-record-returns-2 t) (λ c. search needs) (write-record-returns-3 t) (λ c. search needs) (write-record-returns-4 t) (λ c. search needs) (write-record-returns-5 t) (λ c. search needs) (write-record-returns-6 t) (λ c. search needs) (write-record-returns-7 t))
+    (λ t. write-record-lts.spec (write-record-calls t) (write-record-at t) write-record.Post (λ c κs. search needs) (λ c κs. search needs) (λ c. search needs) (λ c. search needs) (write-record-bit-number-requires t) (write-record-write-mark-requires t) (λ c. search needs) (write-record-write-mark-requires-2 t) (write-record-sub-uint-at t) (λ c. search needs) (write-record-part-uint-at-end t) (write-record-uint-at-requires t) (λ c. search needs) (write-record-add-write-row t) (write-record-sub-write-row t) (write-record-sub-write-row-2 t) (write-record-part-write-row-start t) (λ c. search needs) (write-record-write-row-requires t) (write-record-write-mark-requires-3 t) (write-record-add-result t) (λ c. search needs) (write-record-add-find-choice t) (write-record-find-choice-requires t) (write-record-sub-write-record t) (write-record-sub-write-record-2 t) (write-record-part-write-record-start t) (λ c. search needs) (write-record-write-record-requires t) (write-record-write-mark-requires-4 t) (write-record-add-result-2 t) (λ c. search needs) (write-record-add-write-list t) (write-record-sub-write-list t) (write-record-sub-write-list-2 t) (write-record-part-write-list-start t) (λ c. search needs) (write-record-write-list-requires t) (write-record-write-mark-requires-5 t) (write-record-add-result-3 t) (λ c. search needs) (write-record-add-write-row-2 t) (write-record-sub-write-row-3 t) (write-record-write-row-requires-2 t) (write-record-returns t) (λ c. search needs) (write-record-returns-2 t) (λ c. search needs) (write-record-returns-3 t) (λ c. search needs) (write-record-returns-4 t) (λ c. search needs) (write-record-returns-5 t) (λ c. search needs) (write-record-returns-6 t) (λ c. search needs) (write-record-returns-7 t))
     (λ t. write-row-lts.spec (write-row-calls t) (write-row-at t) write-row.Post row-inv row-measure (write-row-loop-holds t) (write-row-sub-write-record t) (write-row-part-write-record-start t) (λ c. search needs) (write-row-write-record-requires t) (write-row-add-k t) (write-row-mul-here t) (write-row-shared-slice-read-here t) (write-row-add-here t) (write-row-after-part-requires t) (write-row-sub-left t) (write-row-loop-less t) (write-row-loop-again t) (write-row-same-length t) (write-row-returns t))

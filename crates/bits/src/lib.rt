@@ -7,7 +7,7 @@ ghost use Prim.Native.Nat.{_+_, _*_, _<_, _≤_};
 ghost use lib.ListN.{length, getD};
 ghost use Rattle.model.specs.Options.{any};
 ghost use Rattle.model.specs.Bytes.{byte-bits, bits-of, of-bits, zeros, in-bytes};
-ghost use Rattle.bits.specs.Bits.{bits-at, low-bits, Inside, Wrote, Stepped, Seen};
+ghost use Rattle.bits.specs.Bits.{bits-at, Inside, Wrote, Stepped, Seen};
 
 // The bits of an integer's 32 bytes.
 const INTEGER_BITS: usize = 256;
@@ -210,14 +210,6 @@ pub fn copy_bits(src: &[u8], from: usize, dst: &mut [u8], at: usize, n: usize)
     while i < n {
         i += copy_step(src, from + i, dst, at + i, n - i);
     }
-}
-
-// The lowest w bits of an integer's 32 bytes, high byte first, are put at `at`.
-pub fn write_uint(int: &[u8], buf: &mut [u8], at: usize, w: usize)
-    requires { ⌜ Inside (now buf) at w × (w ≤ 256) × (length (now int) ≡ 32) ⌝ }
-    ensures { λ r. ⌜ Wrote (now (buf .entry)) at (low-bits w (now (int .entry))) (now (buf .exit)) ⌝ }
-{
-    copy_bits(int, INTEGER_BITS - w, buf, at, w);
 }
 
 // The integer that the w bits from `at` on say, as 32 bytes, high byte first: zeros stand before its bits.

@@ -164,10 +164,6 @@ pub width-by : (n : ℕ) (r : Found) → r ≡ exponent-of 9 n → pick (is-foun
 unfolding width-of
 width-by n r h = ap (λ b. pick b (bit-widths.Of (width n)) bit-widths.Not) (ap is-found h ∙ width-search n)
 
-pub width-log2-by : (n : ℕ) (r : Found) → r ≡ exponent-of 9 n → log2 r ≡ width-log2 n
-unfolding width-log2
-width-log2-by n r h = ap log2 h
-
 -- an admitted width
 pub record Wide (n : ℕ) : Type 0 where
   pub admitted : width-of n ≡ bit-widths.Of (width n)

@@ -65,7 +65,3 @@ width-of n = pick (one-of n widths) (bit-widths.Of (width n)) bit-widths.Not
 -- the binary logarithm of a bit width
 unfoldable pub width-log2 : ℕ → ℕ
 width-log2 n = log2 (exponent-of 9 n)
-
--- half of a bit width, none at 1
-unfoldable pub half-width : ℕ → Width
-half-width n = pick (ltb (n / 2) 1) bit-widths.Not (bit-widths.Of (width (n / 2)))

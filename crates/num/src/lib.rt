@@ -2,8 +2,8 @@
 // `new` admits what a type file can say (01, kinds 7 and 2): bounds from 2 to 32,768, widths from 1 to 256.
 
 ghost use mathlib.Core.Path.{_≡_};
-ghost use Prim.Native.Nat.{_*_, _≤_};
-ghost use Rattle.num.specs.Powers.{bound, width, exponent-of, bound-of, bound-log2, half-bound, width-of, width-log2, half-width};
+ghost use Prim.Native.Nat.{_≤_};
+ghost use Rattle.num.specs.Powers.{exponent-of, bound-of, bound-log2, half-bound, width-of};
 
 // 1 and the list bounds: 2 ^ 0 to 2 ^ 15.
 const BOUND_POWERS: usize = 16;
@@ -80,14 +80,6 @@ impl NonZeroPow2Usize {
         }
     }
 
-    // The next power of two, for a bound below the largest.
-    pub fn mul2(self) -> NonZeroPow2Usize
-        requires { ⌜ self .0 ≤ 16384 ⌝ }
-        ensures { λ r. ⌜ r ≡ bound (self .0 * 2) ⌝ }
-    {
-        NonZeroPow2Usize(self.0 * 2)
-    }
-
     // The previous power of two, or `Not` at 2.
     pub fn checked_div2(self) -> Bound
         ensures { λ r. ⌜ r ≡ half-bound (self .0) ⌝ }
@@ -126,35 +118,5 @@ impl Pow2Usize {
         ensures { λ r. ⌜ r ≡ self .0 ⌝ }
     {
         self.0
-    }
-
-    // The binary logarithm: k of the width 2 ^ k (0 for a number that `new` does not admit).
-    pub fn log2(self) -> usize
-        ensures { λ r. ⌜ r ≡ width-log2 (self .0) ⌝ }
-    {
-        match exponent(self.0, WIDTH_POWERS) {
-            Found::At(k) => k,
-            Found::Nothing => 0,
-        }
-    }
-
-    // The next power of two, for a width below the largest.
-    pub fn mul2(self) -> Pow2Usize
-        requires { ⌜ self .0 ≤ 128 ⌝ }
-        ensures { λ r. ⌜ r ≡ width (self .0 * 2) ⌝ }
-    {
-        Pow2Usize(self.0 * 2)
-    }
-
-    // The previous power of two, or `Not` at 1.
-    pub fn checked_div2(self) -> Width
-        ensures { λ r. ⌜ r ≡ half-width (self .0) ⌝ }
-    {
-        let half = self.0 / 2;
-        if half < 1 {
-            Width::Not
-        } else {
-            Width::Of(Pow2Usize(half))
-        }
     }
 }

@@ -1,7 +1,6 @@
 pub mod Places
 pub mod Counts
 pub mod Model
-pub mod Edges
 pub mod Small
 pub mod Steps
 pub mod Forms

@@ -14,7 +14,6 @@ use types::head_at;
 ghost use mathlib.Core.Path.{_≡_};
 ghost use mathlib.Core.Bool.{false};
 ghost use Prim.Native.Nat.{_≤_, _<_};
-ghost use lib.ListN.{length};
 ghost use Rattle.model.specs.Structural.{unit, shape-records};
 ghost use Rattle.model.specs.Values.{bit};
 ghost use Rattle.types.specs.Heads.{FairBound};

@@ -3,8 +3,7 @@ ghost use mathlib.Core.Path.{_≡_};
 ghost use Prim.Native.Nat.{_<_, _≤_};
 ghost use lib.ListN.{length};
 ghost use Rattle.structural.specs.Writing.{Wrote};
-ghost use Rattle.text.specs.Lines.{decimal, places, heading, in-digits, in-hex, line, spaced, job-lines, refusal-line};
-ghost use Rattle.text.specs.Lines.{hex-digit as Lines·hex-digit};
+ghost use Rattle.text.specs.Lines.{decimal, places, heading, in-digits, in-hex, line, spaced, job-lines, refusal-line, hex-digit as Lines·hex-digit};
 ghost use Rattle.text.specs.Pieces.{shown};
 
 const NEWLINE: u8 = 10;

@@ -1,5 +1,5 @@
 -- The type that a type file writes down, as a tree: which tree stands at a place.
-use Prim.Native.Nat.{ℕ, zero, suc, _+_}
+use Prim.Native.Nat.{ℕ, zero, suc, _+_, _-_}
 use mathlib.Core.List.{List}
 use mathlib.Core.Bool.{true, false}
 use Rattle.types.specs.declared.Head.{Head}
@@ -11,7 +11,6 @@ use Rattle.types.specs.declared.Walk.{Walk}
 use Rattle.types.specs.declared.Walk.the-variants.{End, Bad}
 use Rattle.types.specs.Record.{headAt, recAt}
 use Rattle.types.specs.Walks.{walk}
-use Prim.Native.Nat.{_-_}
 use Rattle.num.specs.Powers.{bound-log2}
 use Rattle.model.specs.Types.{Ty, Tys, Variants, never, bool, uint, either, option, tuple, array, list, enum, nil, cons, last, more}
 

@@ -4,7 +4,7 @@ use mathlib.Core.Path.{_≡_, refl, sym, ap, ap₂, _∙_}
 use mathlib.Core.List.{List, [], _∷_}
 use Prim.Native.Nat.{ℕ, zero, suc, _+_, _-_, _*_, _≤_, _^_}
 use native.Mathlib.Omega.{arith}
-use native.Mathlib.Nat.{zero-mul, suc-mul, one-le-pow, sub-zero, suc-sub-suc}
+use native.Mathlib.Nat.{zero-mul, suc-mul, one-le-pow}
 use lib.Dec.{ltb}
 use lib.ListN.{length, take, drop, replicate, length-append, length-replicate}
 use Rattle.model.specs.Numbers.{most-shape-records}
@@ -147,16 +147,6 @@ pub fold-step : {A : Type 0} (f : A → A → A) (d : A) (n : ℕ) → 2 ≤ n �
     → fold f d (btree n) xs ≡ f (fold f d (btree (btree-split-index n)) (take (btree-split-index n) xs)) (fold f d (btree (n - btree-split-index n)) (drop (btree-split-index n) xs))
 unfolding fold
 fold-step f d n h xs = rw (btree-fork n h) (rw (leaves-left n h) refl)
-
-take-replicate : {A : Type 0} (k n : ℕ) (a : A) → k ≤ n → take k (replicate n a) ≡ replicate k a
-take-replicate zero n a h = refl
-take-replicate (suc k) zero a h = absurd (omega arith)
-take-replicate {A} (suc k) (suc n) a h = ap {B = List A} (λ l. a ∷ l) (take-replicate k n a (omega arith))
-
-drop-replicate : {A : Type 0} (k n : ℕ) (a : A) → k ≤ n → drop k (replicate n a) ≡ replicate (n - k) a
-drop-replicate zero n a h = ap (λ m. replicate m a) (sym (sub-zero n))
-drop-replicate (suc k) zero a h = absurd (omega arith)
-drop-replicate (suc k) (suc n) a h = drop-replicate k n a (omega arith) ∙ ap (λ m. replicate m a) (sym (suc-sub-suc n k))
 
 -- the only variant: the payload
 pub enum-one : (i : ℕ) (s : SValue) → enum-injection (btree 1) i s ≡ s

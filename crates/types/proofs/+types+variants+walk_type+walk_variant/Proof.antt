@@ -1,10 +1,9 @@
 use borrow.Author.Needs.{needs}
-use Prim.Native.Nat.{_+_, _*_}
+use Prim.Native.Nat.{_+_, _*_, ℕ, _<_}
 use mathlib.Core.Bool.{true, false}
 use Rattle.types.specs.Walks.{opens, walk}
 use Rattle.types.specs.Facts.{walk-deep, walk-go, walk-bad, fits-next, room-for}
 use Rattle.types.specs.Tables.{walked-bad, walked-node, Going, going-start, going-on, going-stop, going-end}
-use Prim.Native.Nat.{ℕ, _<_}
 use borrow.Fn.Kinds.{In}
 use borrow.Fn.PlainCycle.{Measures, is, falls, and}
 use Rattle.types.proofs.types.Reads as types

@@ -18,15 +18,16 @@ use Rattle.model.specs.Reconstruct as model
 use Rattle.model.specs.ValueFiles.{encode, value-file}
 use Rattle.model.specs.Operations.{reconstructed}
 use Rattle.model.specs.Laws.ShapeFiles.{shape-written-read}
+use Rattle.model.specs.Laws.ValueFiles.{length-value-file}
 use Rattle.reply.specs.declared.Refusal.{Refusal}
 use Rattle.reply.specs.declared.Refusal.the-variants.{NotReconstructed, NoRoom}
 use Rattle.reply.specs.declared.Reply.the-variants as reply
 use Rattle.types.specs.declared.TypeAnswer.{TypeAnswer}
 use Rattle.types.specs.declared.TypeAnswer.the-variants.{Ok, Refused}
-use Rattle.types.specs.Table.{EndsIf, Checked}
+use Rattle.types.specs.Table.{Checked}
 use Rattle.types.specs.Trees.{tree, typeOf}
 use Rattle.types.specs.Steps.{Given}
-use Rattle.types.specs.Accepted.{accepted}
+use Rattle.types.specs.Accepted.{given}
 use Rattle.types.specs.Model.{type-of-is, accepted-tree}
 use Rattle.rebuild.specs.declared.Records.{Records}
 use Rattle.rebuild.specs.declared.Records.the-variants as records
@@ -34,21 +35,12 @@ use Rattle.rebuild.specs.declared.ShapeAnswer.{ShapeAnswer}
 use Rattle.rebuild.specs.declared.ShapeAnswer.the-variants as shapes
 use Rattle.rebuild.specs.ShapeRows.{ShapeTold}
 use Rattle.rebuild.specs.Reads.{value-records}
-use Rattle.rebuild.specs.Laws.Model.{known, value-records-reconstruct, value-file-length}
-use Rattle.rebuild.specs.Laws.Few.{few-records}
+use Rattle.rebuild.specs.Laws.Model.{known, value-records-reconstruct}
+use Rattle.rebuild.specs.Laws.Few.{count-in, some-in, few-records}
 use Rattle.restore.specs.Forms.{standing, Ready, Whole}
 use Rattle.restore.specs.Laws.Whole.{whole-given}
 use Rattle.record.specs.Marks.{written}
 use Rattle.delivery.specs.Delivering.{Delivers, deliver-refusal, deliver-no-room, deliver-result}
-
--- numbers that tell answers apart
-abbrev count-in : Records → ℕ
-count-in (records.Of n) = n
-count-in records.Not = 0
-
-abbrev some-in : Records → ℕ
-some-in (records.Of n) = 1
-some-in records.Not = 0
 
 -- what is known of a value is that there is none, or its records
 module _ (t : _) where
@@ -72,7 +64,7 @@ module _ {s E : List ℕ} {r : TypeAnswer} (c : Checked s r E) where
 
   module _ {n : ℕ} (e : r ≡ Ok n) where
     pub rebuild-given : Given 32 false s E 0
-    rebuild-given = record { starts = accepted s n (sym (c .answer) ∙ e); ends = subst (λ (r : TypeAnswer). EndsIf r s E) e (c .table) }
+    rebuild-given = given c e
 
     says : type-of s ≡ done (tree 32 s 0)
     says = accepted-tree s n (sym (c .answer) ∙ e)
@@ -111,7 +103,7 @@ module _ {s E : List ℕ} {r : TypeAnswer} (c : Checked s r E) where
             file = value-file (tree 32 s 0) (value .value)
 
             file-length : length file ≡ m * 36
-            file-length = value-file-length (tree 32 s 0) (value .value) ∙ ap (λ n. n * 36) (value .count)
+            file-length = length-value-file (tree 32 s 0) (value .value) ∙ ap (λ n. n * 36) (value .count)
 
             rebuilt : reconstructed s sh ≡ done file
             unfolding reconstructed

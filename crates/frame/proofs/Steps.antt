@@ -19,7 +19,7 @@ use Rattle.model.specs.Balanced.{btree}
 use Rattle.model.specs.Frames.{width}
 use Rattle.model.specs.Laws.Options.{mapO-some}
 use Rattle.types.specs.Heads.{FairBound}
-use Rattle.types.specs.Steps.{given-levels, given-within, given-inside}
+use Rattle.types.specs.Steps.{given-within}
 use Rattle.structural.specs.Forms.{Stands}
 use Rattle.structural.specs.Forms as structural
 use Rattle.structural.specs.Laws.Forms.{stands-end}
@@ -27,11 +27,10 @@ use Rattle.bits.specs.Bits.{Inside, Wrote}
 use Rattle.bits.specs.Laws.Writing.{wrote-then, wrote-same}
 use Rattle.told.specs.declared.Parts.{Parts}
 use Rattle.told.specs.declared.Parts.the-variants.{Copies, Types}
-use Rattle.told.specs.Forms.{GivenParts, hops}
+use Rattle.told.specs.Forms.{GivenParts, hops, after-at}
 use Rattle.told.specs.Forms as told
 use Rattle.told.specs.Laws.Lists.{block-share}
 use Rattle.told.specs.Widths.{Wide}
-use Rattle.told.specs.Forms.{after-at}
 use Rattle.frame.specs.Forms.{Bits, and-then, frame-at, row, tags, chosen, block, listed, Fitted, Framed, Tagged}
 use Rattle.frame.specs.Laws.Told.{frame-width}
 use Rattle.frame.specs.Laws.Lists.{tag-true, block-zeros, block-row, list-block, Halved, list-halved, share-one}
@@ -40,21 +39,8 @@ use Rattle.frame.specs.Laws.Forms.{BitsFramed, SumFramed, length-record-
 
 -- RECORDS
 
-module _ {d : ℕ} {s E : List ℕ} {p : ℕ} (g : Stands d s E p) where
-  pub level-some : 1 ≤ d
-  level-some = let h = given-levels (g .given) in omega arith
-
-  within : p < length s / 4
-  within = given-within (g .given)
-
-  pub inside-ends : p < length E
-  inside-ends = given-inside (g .given)
-
-  pub inside-widths : {W : List ℕ} → Wide s E W → p < length W
-  inside-widths w = let l = within in let k = w .long in omega arith
-
-  pub next-fits : length s < 2 ^ 64 → Fits w64 (p + 1)
-  next-fits l = let h = within in omega arith
+pub inside-widths : {d : ℕ} {s E : List ℕ} {p : ℕ} (g : Stands d s E p) {W : List ℕ} → Wide s E W → p < length W
+inside-widths g w = let l = given-within (g .given) in let k = w .long in omega arith
 
 pub value-fits : (val : List ℕ) (v : ℕ) → length val < 2 ^ 64 → v < length val / 36 → Fits w64 (v + 1)
 value-fits val v l h = omega arith

@@ -1,9 +1,9 @@
 -- Laws of list bounds and bit widths: a search among the powers of two is the model's test, and it finds the power's own exponent.
 -- A bound's search is one among 1, 2, 4 .. whose place 0 is left out; a width's is a look into the list of widths.
 use mathlib.Core.Path.{_≡_, refl, sym, ap, _∙_}
-use mathlib.Core.Bool.{Bool, true, false, _||_, false≢true}
+use mathlib.Core.Bool.{Bool, true, false, _||_}
 use mathlib.Core.List.{List, [], _∷_}
-use mathlib.Core.Option.{Option, none, some, Option·none-ne-some, Option·some-injective}
+use mathlib.Core.Option.{Option, none, some}
 use Prim.Native.Nat.{ℕ, zero, suc, _+_, _/_, _^_, _≤_, _<_}
 use native.Mathlib.Nat.{two-pow-succ, one-le-pow, pow-le-pow-right}
 use native.Mathlib.Decide.{decLe}
@@ -12,24 +12,16 @@ use lib.Dec.{eqb}
 use borrow.Author.Tests.{eqb-true, eq-eqb, ne-eqb, le-ltb}
 use Rattle.model.specs.Options.{pick, mapO, one-of, find}
 use Rattle.model.specs.TypeFiles.{widths}
+use Rattle.model.specs.Laws.TypeFiles.{find-sound}
 use Rattle.num.specs.declared.Found.{Found}
 use Rattle.num.specs.declared.Found.the-variants.{At, Nothing}
 use Rattle.num.specs.declared.NonZeroPow2Usize.{NonZeroPow2Usize}
 use Rattle.num.specs.declared.Pow2Usize.{Pow2Usize}
 use Rattle.num.specs.declared.Bound.the-variants as bounds
 use Rattle.num.specs.declared.Width.the-variants as bit-widths
-use Rattle.num.specs.Powers.{found, exponent-of, log2, bound, bound-exponent, bound-if, bound-of, bound-log2, half-bound, width, width-of, width-log2}
+use Rattle.num.specs.Powers.{found, exponent-of, log2, bound, bound-exponent, bound-if, bound-of, bound-log2, half-bound, width, width-of}
 
 -- SEARCHES
-
--- what is found at k is f k
-find-is : (f : ℕ → ℕ) (fuel i n k : ℕ) → find f fuel i n ≡ some k → n ≡ f k
-find-is f zero i n k h = absurd (Option·none-ne-some k h)
-find-is f (suc fuel) i n k h = go (eqb n (f i)) refl (find-is f fuel (suc i) n k) h
-  where
-    go : (b : Bool) → eqb n (f i) ≡ b → (find f fuel (suc i) n ≡ some k → n ≡ f k) → pick b (some i) (find f fuel (suc i) n) ≡ some k → n ≡ f k
-    go true e rest m = eqb-true n (f i) e ∙ ap f (Option·some-injective i k m)
-    go false e rest m = rest m
 
 -- in a rising sequence f k is found at k
 find-first : (f : ℕ → ℕ) → ((i k : ℕ) → i < k → f i < f k) → (fuel i k : ℕ) → i ≤ k → k < i + fuel → find f fuel i (f k) ≡ some k
@@ -113,7 +105,7 @@ pub record Bounded (n e : ℕ) : Type 0 where
 -- what the model's reader takes for a bound is one
 pub bounded : (n e : ℕ) → find (λ e. 2 ^ suc e) 15 0 n ≡ some e → Bounded n e
 unfolding bound-of bound-log2
-bounded n e h = record { admitted = ap (bound-if n) h; power = find-is (λ e. 2 ^ suc e) 15 0 n e h; log2 = ap suc-or-zero h }
+bounded n e h = record { admitted = ap (bound-if n) h; power = find-sound (λ e. 2 ^ suc e) 15 0 n e h .0; log2 = ap suc-or-zero h }
 
 -- the bounds are 2, 4 .. 32,768
 pub bound-power : (e : ℕ) → e < 15 → find (λ e. 2 ^ suc e) 15 0 (2 ^ suc e) ≡ some e
@@ -163,20 +155,6 @@ width-search n = one-of-powers 9 0 n
 pub width-by : (n : ℕ) (r : Found) → r ≡ exponent-of 9 n → pick (is-found r) (bit-widths.Of (width n)) bit-widths.Not ≡ width-of n
 unfolding width-of
 width-by n r h = ap (λ b. pick b (bit-widths.Of (width n)) bit-widths.Not) (ap is-found h ∙ width-search n)
-
--- an admitted width
-pub record Wide (n : ℕ) : Type 0 where
-  pub admitted : width-of n ≡ bit-widths.Of (width n)
-  pub power : n ≡ 2 ^ width-log2 n
-
--- what the model's reader takes for a width is one
-pub wide : (n : ℕ) → one-of n widths ≡ true → Wide n
-unfolding width-of width-log2 exponent-of
-wide n h = record { admitted = ap (λ b. pick b (bit-widths.Of (width n)) bit-widths.Not) h; power = go (find (λ k. 2 ^ k) 9 0 n) refl (width-search n ∙ h) }
-  where
-    go : (o : Option ℕ) → find (λ k. 2 ^ k) 9 0 n ≡ o → is-found (found o) ≡ true → n ≡ 2 ^ log2 (found o)
-    go none q m = absurd (false≢true m)
-    go (some k) q m = find-is (λ k. 2 ^ k) 9 0 n k q
 
 -- what `new` admits the model's reader takes, and nothing else
 pub width-is : (n : ℕ) (w : Pow2Usize) → bit-widths.Of w ≡ width-of n → (one-of n widths ≡ true) × (w ≡ width n)

@@ -61,7 +61,3 @@ width n = record { 0 = n }
 -- n as a bit width
 unfoldable pub width-of : ℕ → Width
 width-of n = pick (one-of n widths) (bit-widths.Of (width n)) bit-widths.Not
-
--- the binary logarithm of a bit width
-unfoldable pub width-log2 : ℕ → ℕ
-width-log2 n = log2 (exponent-of 9 n)

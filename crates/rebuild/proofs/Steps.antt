@@ -1,21 +1,18 @@
 -- The steps of the readers, in the form in which the code's needs ask them.
 use mathlib.Core.Path.{_≡_, refl, sym, ap, subst, _∙_}
 use mathlib.Core.List.{List, []}
-use Prim.Native.Nat.{ℕ, _+_, _-_, _^_, _≤_, _<_}
+use Prim.Native.Nat.{ℕ, _+_, _-_, _≤_}
 use native.Mathlib.Omega.{arith}
-use mir.Syntax.{w64}
-use mir.Val.{Fits}
-use lib.ListN.{length, getD}
+use lib.ListN.{getD}
 use Rattle.num.specs.declared.NonZeroPow2Usize.{NonZeroPow2Usize}
 use Rattle.num.specs.declared.Bound.{Bound}
 use Rattle.num.specs.declared.Bound.the-variants as bounds
 use Rattle.num.specs.Powers.{half-bound}
 use Rattle.model.specs.Balanced.{btree-split-index}
-use Rattle.model.specs.Laws.Balanced.{split-bounds}
+use Rattle.model.specs.Laws.Balanced.{Shares}
 use Rattle.types.specs.declared.Head.{Head}
 use Rattle.types.specs.Record.{headAt}
 use Rattle.types.specs.Heads.{Fair, FairBound}
-use Rattle.types.specs.Steps.{given-levels, given-within}
 use Rattle.rebuild.specs.declared.Form.{Form}
 use Rattle.rebuild.specs.declared.Form.the-variants as form
 use Rattle.rebuild.specs.declared.Parts.{Parts}
@@ -41,12 +38,6 @@ here x p e h = h ∙ ap (λ (f : Reader). f p) (sym e)
 -- RECORDS
 
 module _ {d : ℕ} {s E : List ℕ} {p : ℕ} (g : Stands d s E p) where
-  pub level-some : 1 ≤ d
-  level-some = let h = given-levels (g .given) in omega arith
-
-  pub next-fits : length s < 2 ^ 64 → Fits w64 (p + 1)
-  next-fits l = let h = given-within (g .given) in omega arith
-
   module _ (sh : List ℕ) (h : Head) (f : Form) (e : h ≡ headAt s p) (i : Fair h) (j : f ≡ form-of h) where
     as-formed : (x : Form) → f ≡ x → Formed sh x (d - 1) s E (p + 1) (standing sh d s p)
     as-formed x k = subst (λ y. Formed sh y (d - 1) s E (p + 1) (standing sh d s p)) (sym j ∙ k) (formed sh g h e i)
@@ -118,14 +109,6 @@ module _ (sh : List ℕ) (k : Parts) (d : ℕ) (s : List ℕ) (q p : ℕ) (x : R
   part-type e h = rw e h
 
 -- PRODUCTS
-
--- the left side has at least one part, and so has the right side
-pub record Shares (n few : ℕ) : Type 0 where
-  pub some : 1 ≤ few
-  pub less : few < n
-
-pub shares : {n few : ℕ} → few ≡ btree-split-index n → (n ≡ 0 → ⊥) → (n ≡ 1 → ⊥) → Shares n few
-shares {n} e z o = let b = split-bounds n (omega arith) in record { some = omega arith; less = omega arith }
 
 pub one-given : {k : Parts} {d : ℕ} {s E : List ℕ} {n p : ℕ} → GivenParts k d s E n p → n ≡ 1 → GivenPart k d s E p
 one-given g z = given-one g (omega arith)

@@ -9,8 +9,7 @@ use mir.Syntax.{w64}
 use mir.Val.{Fits}
 use lib.Dec.{eqb}
 use lib.ListN.{length, getD}
-use Rattle.model.specs.Balanced.{btree-split-index}
-use Rattle.model.specs.Laws.Balanced.{split-bounds}
+use Rattle.model.specs.Laws.Balanced.{Shares}
 use Rattle.num.specs.declared.NonZeroPow2Usize.{NonZeroPow2Usize}
 use Rattle.num.specs.declared.Bound.{Bound}
 use Rattle.num.specs.declared.Bound.the-variants as bounds
@@ -29,13 +28,12 @@ use Rattle.bits.specs.Bits as bits
 use Rattle.bits.specs.Laws.Writing.{wrote-then, wrote-same}
 use Rattle.structural.specs.Forms.{ending, Stands}
 use Rattle.structural.specs.Writing.{put, Wrote}
-use Rattle.structural.specs.Laws.Forms.{stands-end}
+use Rattle.structural.specs.Laws.Forms.{stands-end, stands-inside}
 use Rattle.structural.specs.Laws.Writing.{rest, back, wrote-none, wrote-length}
-use Rattle.types.specs.Steps.{given-levels, given-within, given-inside}
 use Rattle.told.specs.declared.Parts.{Parts}
 use Rattle.told.specs.declared.Parts.the-variants.{Copies, Types}
 use Rattle.told.specs.Forms.{after, skip, GivenParts, hops, Hops}
-use Rattle.told.specs.Laws.Trees.{skip-add, given-one, given-left, given-right}
+use Rattle.told.specs.Laws.Trees.{right-given}
 use Rattle.record.specs.Marks.{mark-of, Marks, bytes, written}
 use Rattle.record.specs.declared.Form.{Form}
 use Rattle.record.specs.declared.Form.the-variants as form
@@ -58,27 +56,6 @@ module _ {A : Type 0} {g : Given A} {a c : A} {e n : ℕ} (h : g ≡ some (a, e)
 
   same-end : e ≡ n
   same-end = ap (λ (y : A × ℕ). y .1) (Option·some-injective _ _ (sym h ∙ k))
-
--- the left side has at least one part, and so has the right side
-pub record Shares (n few : ℕ) : Type 0 where
-  pub split : few ≡ btree-split-index n
-  pub some : 1 ≤ few
-  pub less : few < n
-
-pub shares : {n few : ℕ} → few ≡ btree-split-index n → 2 ≤ n → Shares n few
-shares {n} e h = let b = split-bounds n h in record { split = e; some = omega arith; less = omega arith }
-
--- RECORDS
-
-module _ {d : ℕ} {s E : List ℕ} {p : ℕ} (g : Stands d s E p) where
-  pub level-some : 1 ≤ d
-  level-some = let h = given-levels (g .given) in omega arith
-
-  pub next-fits : length s < 2 ^ 64 → Fits w64 (p + 1)
-  next-fits l = let h = given-within (g .given) in omega arith
-
-  pub stands-inside : p < length E
-  stands-inside = given-inside (g .given)
 
 -- BITS
 
@@ -131,10 +108,6 @@ module _ (sh : List ℕ) (n q : ℕ) (g : Found (made-at sh (bit-row n) q)) wher
 -- PARTS
 
 module _ (k : Parts) (d : ℕ) (s : List ℕ) where
-  pub skip-none : (n p : ℕ) → n ≡ 0 → p ≡ skip k d s n p
-  unfolding skip
-  skip-none n p z = ap (λ i. skip k d s i p) (sym z)
-
   pub skip-copy : (n p : ℕ) → n ≡ 1 → k ≡ Copies → p ≡ skip k d s n p
   unfolding skip after
   skip-copy n p z e = rw (z, e) refl
@@ -142,23 +115,6 @@ module _ (k : Parts) (d : ℕ) (s : List ℕ) where
   pub skip-type : (E : List ℕ) (n p : ℕ) → n ≡ 1 → k ≡ Types → Stands d s E p → getD E p 0 ≡ skip k d s n p
   unfolding skip after
   skip-type E n p z e g = rw (z, e) (stands-end g)
-
-  pub skip-both : {n few : ℕ} → Shares n few → (p : ℕ) {a b : ℕ} → a ≡ skip k d s few p → b ≡ skip k d s (n - few) a → b ≡ skip k d s n p
-  skip-both {n} {few} h p e f =
-      let l = h .less in
-      let m : few + (n - few) ≡ n = omega arith in
-      f ∙ ap (skip k d s (n - few)) e ∙ sym (skip-add k d s few (n - few) p) ∙ ap (λ i. skip k d s i p) m
-
-module _ {k : Parts} {d : ℕ} {s E : List ℕ} {n p : ℕ} (g : GivenParts k d s E n p) where
-  pub one-given : n ≡ 1 → Stands d s E p
-  one-given z = given-one g (omega arith)
-
-  module _ {few : ℕ} (h : Shares n few) where
-    pub left-given : GivenParts k d s E few p
-    left-given = let l = h .less in given-left g few (omega arith)
-
-    pub right-given : {a : ℕ} → a ≡ skip k d s few p → GivenParts k d s E (n - few) a
-    right-given e = let l = h .less in rw e (given-right g few (omega arith))
 
 -- the table tells where types and Variants stand
 hops-skip : {d : ℕ} {s E : List ℕ} (i n p : ℕ) → i ≤ n → GivenParts Types d s E n p → hops E i p ≡ skip Types d s i p
@@ -173,7 +129,7 @@ module _ {d : ℕ} {s E : List ℕ} {n p few : ℕ} (g : GivenParts Types d s E 
   given-hops = let l = h .less in record { each = λ i m. rw (hops-skip i n p (omega arith) g) (stands-inside (g .each i (omega arith))) }
 
   pub hopped-given : {a : ℕ} → a ≡ hops E few p → GivenParts Types d s E (n - few) a
-  hopped-given e = let l = h .less in right-given g h (e ∙ hops-skip few n p (omega arith) g)
+  hopped-given e = let l = h .less in right-given h g (e ∙ hops-skip few n p (omega arith) g)
 
 -- PRODUCTS
 

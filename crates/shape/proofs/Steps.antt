@@ -1,5 +1,5 @@
 -- The steps of the writers, in the form in which the code's needs ask them.
-use mathlib.Core.Path.{_≡_, refl, sym, ap, _∙_}
+use mathlib.Core.Path.{_≡_, ap, _∙_}
 use mathlib.Core.List.{List}
 use mathlib.Core.Option.{some}
 use Prim.Native.Nat.{ℕ, _+_, _-_, _/_, _^_, _≤_, _<_}
@@ -9,17 +9,14 @@ use mir.Val.{Fits}
 use lib.ListN.{length, set}
 use Rattle.model.specs.Balanced.{btree-split-index}
 use Rattle.model.specs.Structural.{unit, left, shape-records}
-use Rattle.model.specs.Laws.Balanced.{split-bounds}
-use Rattle.types.specs.Steps.{given-levels, given-within, given-inside}
 use Rattle.structural.specs.Forms.{Stands}
 use Rattle.structural.specs.Laws.Forms.{stands-end}
 use Rattle.structural.specs.Laws.Writing.{wrote-none, wrote-set}
 use Rattle.told.specs.declared.Parts.{Parts}
 use Rattle.told.specs.declared.Parts.the-variants.{Copies, Types}
-use Rattle.told.specs.Forms.{Told, standing, after, skip, GivenParts, balanced, chosen}
-use Rattle.told.specs.Laws.Trees.{skip-add, balanced-none, balanced-one, balanced-step, given-one, given-left, given-right}
+use Rattle.told.specs.Forms.{Told, standing, after, skip, balanced, chosen, after-at}
+use Rattle.told.specs.Laws.Trees.{balanced-none, balanced-one, balanced-step}
 use Rattle.told.specs.Laws.Lists.{chosen-one, chosen-left, chosen-right, block-told, block-none, block-some}
-use Rattle.told.specs.Forms.{after-at}
 use Rattle.shape.specs.Forms.{Ready, Placed}
 use Rattle.shape.specs.Laws.Writing.{room-some, ready-room, Stem, left-stem, right-stem, Pair, pair-of}
 
@@ -27,16 +24,6 @@ use Rattle.shape.specs.Laws.Writing.{room-some, ready-room, Stem, left-s
 
 pub ready-some : {t : Told} {out : List ℕ} → Ready t out → 0 < length out
 ready-some {out = out} r = room-some (r .shape) out (r .room)
-
-module _ {d : ℕ} {s E : List ℕ} {p : ℕ} (g : Stands d s E p) where
-  pub level-some : 1 ≤ d
-  level-some = let h = given-levels (g .given) in omega arith
-
-  pub next-fits : length s < 2 ^ 64 → Fits w64 (p + 1)
-  next-fits l = let h = given-within (g .given) in omega arith
-
-  pub inside : p < length E
-  inside = given-inside (g .given)
 
 pub record-fits : (val : List ℕ) (v : ℕ) → v < length val / 36 → length val < 2 ^ 64 → Fits w64 (v + 1)
 record-fits val v h l = omega arith
@@ -55,38 +42,10 @@ module _ (k : Parts) (d : ℕ) (s val : List ℕ) (n p v : ℕ) where
       → Pair (balanced k d s val n p v) (balanced k d s val few p v) (balanced k d s val (n - few) q) out
   tree-pair few q out e z o g r = pair-of (rw (g, e) (balanced-step k d s val n p v (omega arith))) r
 
-pub skip-none : (k : Parts) (d : ℕ) (s : List ℕ) (n p : ℕ) → n ≡ 0 → p ≡ skip k d s n p
-unfolding skip
-skip-none k d s n p z = rw z refl
-
 pub skip-one : (k : Parts) {d : ℕ} {s E : List ℕ} {p q : ℕ} (n : ℕ) → n ≡ 1 → Stands d s E p → q ≡ after-at k E p → q ≡ skip k d s n p
 unfolding skip after
 skip-one Copies n z g e = rw z e
 skip-one Types n z g e = rw z (e ∙ stands-end g)
-
-pub one-given : {k : Parts} {d : ℕ} {s E : List ℕ} {n p : ℕ} → GivenParts k d s E n p → n ≡ 1 → Stands d s E p
-one-given g z = given-one g (omega arith)
-
--- the left side has at least one part, and so has the right side
-pub record Shares (n few : ℕ) : Type 0 where
-  pub some : 1 ≤ few
-  pub less : few < n
-
-pub shares : {n few : ℕ} → few ≡ btree-split-index n → 2 ≤ n → Shares n few
-shares {n} e h = let b = split-bounds n h in record { some = omega arith; less = omega arith }
-
-module _ {n few : ℕ} (h : Shares n few) {k : Parts} {d : ℕ} {s E : List ℕ} {p : ℕ} (g : GivenParts k d s E n p) where
-  pub left-given : GivenParts k d s E few p
-  left-given = let l = h .less in given-left g few (omega arith)
-
-  pub right-given : {q : ℕ} → q ≡ skip k d s few p → GivenParts k d s E (n - few) q
-  right-given e = let l = h .less in rw e (given-right g few (omega arith))
-
-pub skip-sides : {n few : ℕ} → Shares n few → (k : Parts) (d : ℕ) (s : List ℕ) (p : ℕ) {q r : ℕ} → q ≡ skip k d s few p → r ≡ skip k d s (n - few) q → r ≡ skip k d s n p
-skip-sides {n} {few} h k d s p e f =
-    let l = h .less in
-    let m : few + (n - few) ≡ n = omega arith in
-    f ∙ ap (skip k d s (n - few)) e ∙ sym (skip-add k d s few (n - few) p) ∙ ap (λ i. skip k d s i p) m
 
 -- SUMS
 

@@ -8,13 +8,11 @@ use mir.Syntax.{w64}
 use mir.Val.{Fits}
 use lib.ListN.{length, getD, set, length-set}
 use Rattle.num.specs.declared.NonZeroPow2Usize.{NonZeroPow2Usize}
-use Rattle.model.specs.Balanced.{btree-split-index}
 use Rattle.model.specs.Structural.{𝟙, _⊕_, type-records}
-use Rattle.model.specs.Laws.Balanced.{split-bounds}
+use Rattle.model.specs.Laws.Balanced.{Shares}
 use Rattle.types.specs.declared.Head.{Head}
 use Rattle.types.specs.Record.{headAt}
 use Rattle.types.specs.Heads.{Fair}
-use Rattle.types.specs.Steps.{given-levels, given-within, given-inside}
 use Rattle.structural.specs.declared.Form.{Form}
 use Rattle.structural.specs.declared.Form.the-variants as form
 use Rattle.structural.specs.declared.Parts.{Parts}
@@ -24,20 +22,11 @@ use Rattle.structural.specs.Writing.{Wrote}
 use Rattle.structural.specs.Forms.{Room, form-of, all-same, standing, Stands, part, after, skip, balanced, GivenPart, GivenParts, Placed, block-of}
 use Rattle.structural.specs.Laws.Writing.{rest, back, wrote-none, wrote-set, wrote-length, wrote-room, wrote-lent}
 use Rattle.structural.specs.Laws.Trees.{skip-add, skip-same, balanced-none, balanced-one, given-one, given-left, given-right}
-use Rattle.structural.specs.Laws.Forms.{stands-end, TreeOf, ListOf, Formed, formed}
+use Rattle.structural.specs.Laws.Forms.{stands-end, stands-inside, TreeOf, ListOf, Formed, formed}
 
 -- RECORDS
 
 module _ {d : ℕ} {s E : List ℕ} {p : ℕ} (g : Stands d s E p) where
-  pub level-some : 1 ≤ d
-  level-some = let h = given-levels (g .given) in omega arith
-
-  pub next-fits : length s < 2 ^ 64 → Fits w64 (p + 1)
-  next-fits l = let h = given-within (g .given) in omega arith
-
-  pub inside : p < length E
-  inside = given-inside (g .given)
-
   as-formed : (h : Head) (f x : Form) → h ≡ headAt s p → Fair h → f ≡ form-of h → f ≡ x → Formed x (d - 1) s E (p + 1) (standing d s p)
   as-formed h f x e i j k = subst (λ y. Formed y (d - 1) s E (p + 1) (standing d s p)) (sym j ∙ k) (formed g h e i)
 
@@ -104,7 +93,7 @@ module _ (j k : Parts) (d : ℕ) (s E : List ℕ) (p : ℕ) (e : k ≡ j) where
   part-room out r t = rw (← told-is j d s p t, ← e) r
 
   pub part-inside : Told j → GivenPart k d s E p → p < length E
-  part-inside t g = inside (part-given t g)
+  part-inside t g = stands-inside (part-given t g)
 
   pub part-placed : {out o : List ℕ} {r : ℕ} → Told j → InRow j → GivenPart k d s E p → Wrote (type-records (standing d s p)) out o r → Placed (part k d s p) (after k d s p) out o (record { next = getD E p 0; len = r })
   part-placed t i g w = rw e (row-placed j i (part-given t g) w)
@@ -158,14 +147,6 @@ module _ (k : Parts) (d : ℕ) (s : List ℕ) (n p : ℕ) (out : List ℕ) where
 
 pub one-given : {k : Parts} {d : ℕ} {s E : List ℕ} {n p : ℕ} → GivenParts k d s E n p → n ≡ 1 → GivenPart k d s E p
 one-given g z = given-one g (omega arith)
-
--- the left side has at least one part, and so has the right side
-pub record Shares (n few : ℕ) : Type 0 where
-  pub some : 1 ≤ few
-  pub less : few < n
-
-pub shares : {n few : ℕ} → few ≡ btree-split-index n → (n ≡ 0 → ⊥) → (n ≡ 1 → ⊥) → Shares n few
-shares {n} e z o = let b = split-bounds n (omega arith) in record { some = omega arith; less = omega arith }
 
 module _ {n few : ℕ} (h : Shares n few) {k : Parts} {d : ℕ} {s E : List ℕ} {p : ℕ} (g : GivenParts k d s E n p) where
   pub left-given : GivenParts k d s E few p

@@ -1,46 +1,25 @@
 -- What a record of each kind says, as the code computes it, in the form in which its needs ask it.
 use mathlib.Core.Path.{_≡_, ap, ap₂, _∙_}
 use mathlib.Core.List.{List}
-use Prim.Native.Nat.{ℕ, suc, _+_, _-_, _*_, _^_, _≤_, _<_, max}
-use native.Mathlib.Nat.{pow-le-pow-right, two-pow-succ, one-le-pow, mul-le-mul-right}
+use Prim.Native.Nat.{ℕ, _+_, _-_, _*_, _≤_, _<_, max}
+use native.Mathlib.Nat.{mul-le-mul-right}
 use native.Mathlib.Omega.{arith}
 use lib.ListN.{getD}
 use mir.Syntax.{w64}
 use mir.Val.{Fits}
 use Rattle.model.specs.Balanced.{btree}
-use Rattle.model.specs.Laws.TypeFiles.{find-sound}
 use Rattle.num.specs.declared.NonZeroPow2Usize.{NonZeroPow2Usize}
 use Rattle.num.specs.declared.Pow2Usize.{Pow2Usize}
 use Rattle.num.specs.Powers.{bound-log2}
-use Rattle.num.specs.Laws.{bounded}
 use Rattle.types.specs.declared.Head.{Head}
 use Rattle.types.specs.declared.Head.the-variants.{Missing, Faulty, Never, Boolean, UInt, Either, Opt, Tuple, Array, Listed, Variants, Payload}
-use Rattle.types.specs.Heads.{FairWidth, FairBound}
+use Rattle.types.specs.Heads.{FairWidth, FairBound, width-range, bound-range, log-range}
 use Rattle.table.specs.declared.Facts as facts
 use Rattle.table.specs.declared.Sum as sum
 use Rattle.table.specs.Facts.{cut, entry, sums, sumWidth, uintFacts, eitherFacts, optionFacts, arrayFacts, listFacts, enumFacts, product, factsOf}
-use Rattle.table.specs.Right.{width-range}
 use Rattle.table.specs.Steps.{sums-small}
 
 -- THE NUMBERS
-
-pub wide : (w : Pow2Usize) → FairWidth w → (1 ≤ w .0) × (w .0 ≤ 256)
-wide w f = width-range (w .0) (f .admitted)
-
--- a bound is 2 to 32,768
-pub bound-range : (b : NonZeroPow2Usize) → FairBound b → (2 ≤ b .0) × (b .0 ≤ 32768)
-bound-range b f =
-    let (e, l) = find-sound (λ e. 2 ^ suc e) 15 0 (b .0) (f .exponent) (f .admitted) in
-    let m : suc (f .exponent) ≤ 15 = omega arith in
-    let u : 2 ^ suc (f .exponent) ≤ 2 ^ 15 = pow-le-pow-right {n = 2} (omega arith) {i = suc (f .exponent)} {j = 15} m in
-    (omega (arith, two-pow-succ (f .exponent), one-le-pow (f .exponent) 2 (omega arith)), omega arith)
-
--- its logarithm 1 to 15
-pub log-range : (b : NonZeroPow2Usize) → FairBound b → (1 ≤ bound-log2 (b .0)) × (bound-log2 (b .0) ≤ 15)
-log-range b f =
-    let l : f .exponent < 0 + 15 = find-sound (λ e. 2 ^ suc e) 15 0 (b .0) (f .exponent) (f .admitted) .1 in
-    let k = bounded (b .0) (f .exponent) (f .admitted) .log2 in
-    (omega arith, omega arith)
 
 pub times-fits : (n x y : ℕ) → n < 65536 → x ≡ cut y → Fits w64 (n * x)
 times-fits n x y h e =
@@ -53,10 +32,10 @@ times-fits n x y h e =
 
 module _ (n : ℕ) (w : Pow2Usize) (f : FairWidth w) (e : n ≡ w .0) where
   pub uint-fits : Fits w64 (4 * n)
-  uint-fits = let r = wide w f in record { fits = omega arith }
+  uint-fits = let r = width-range w f in record { fits = omega arith }
 
   pub uint-some : 1 ≤ 4 * n
-  uint-some = let r = wide w f in omega arith
+  uint-some = let r = width-range w f in omega arith
 
   pub uint-is : _≡_ {A = facts.Facts} (record { size = 4 * n - 1; width = n }) (uintFacts (w .0))
   uint-is = ap uintFacts e

@@ -9,7 +9,6 @@ use borrow.Author.Tests.{ne-eqb}
 use Rattle.model.specs.Balanced.{btree, leaves}
 use Rattle.model.specs.Structural.{SType, 𝟙, _⊕_, productOf, balanced-sum, partition-type}
 use Rattle.model.specs.Frames.{width}
-use Rattle.model.specs.Types.{count}
 use Rattle.model.specs.Lowering.{lower, lowers}
 use Rattle.model.specs.Laws.Balanced.{btree-leaves}
 use Rattle.model.specs.Laws.Sizes.{nodes, nodes-all, width-all, nodes-none, nodes-productOf, nodes-array, nodes-balanced-sum, width-productOf, width-array}
@@ -17,21 +16,21 @@ use Rattle.num.specs.Powers.{bound-log2}
 use Rattle.num.specs.Laws.{bounded}
 use Rattle.types.specs.declared.Head.{Head}
 use Rattle.types.specs.declared.Head.the-variants.{Missing, Faulty, Never, Boolean, UInt, Either, Opt, Tuple, Array, Listed, Variants, Payload}
-use Rattle.types.specs.declared.Walk.{Walk}
 use Rattle.types.specs.declared.Walk.the-variants.{End}
 use Rattle.types.specs.Record.{headAt, callsFor, recAt}
-use Rattle.types.specs.Heads.{Fair}
+use Rattle.types.specs.Heads.{Fair, width-range}
 use Rattle.types.specs.Walks.{opens, many, walk}
 use Rattle.types.specs.Table.{Ends}
-use Rattle.types.specs.Trees.{endOf, cases, node, payload, tree, treev}
+use Rattle.types.specs.Trees.{endOf, node, payload, tree, treev}
+use Rattle.types.specs.Steps.{count-cases}
 use Rattle.types.specs.Unique.{bad-end, opened}
-use Rattle.types.specs.Lows.{low, lows, lows-kids, lows-cases}
+use Rattle.types.specs.Lows.{low, lows, length-lows, lows-kids, lows-cases}
 use Rattle.table.specs.declared.Facts as facts
 use Rattle.table.specs.declared.Sum as sum
 use Rattle.table.specs.Facts.{cut, entry, sums, sumWidth, product, factsOf, factsTrue, Measured}
-use Rattle.table.specs.Rows.{length-lows, first-of}
+use Rattle.table.specs.Rows.{first-of}
 use Rattle.table.specs.Sums.{same-facts, cut-max, entry-size, entry-width, next-place, further, sums-right, sum-right}
-use Rattle.table.specs.Right.{cut-mul, list-size, list-bits, width-range}
+use Rattle.table.specs.Right.{cut-mul, list-size, list-bits}
 
 cut-plus : (a b c : ℕ) → cut a ≡ cut b → cut (cut a + c) ≡ cut (b + c)
 cut-plus a b c e = ap (λ k. cut (k + c)) e ∙ again b c
@@ -60,11 +59,6 @@ array-of (suc n) t =
     let c = cut-mul (suc n) (nodes t) in
     let e = cut-mul (suc n) (width t) in
     rw (ne-eqb (suc n) 0 (λ z. omega arith)) (same-facts (omega arith) (omega arith))
-
-count-cases : (g : ℕ → Rattle.model.specs.Types.Tys) (f : ℕ → Walk) (n p : ℕ) → count (cases g f n p) ≡ suc n
-unfolding cases
-count-cases g f zero p = refl
-count-cases g f (suc n) p = ap suc (count-cases g f n (endOf (f p)))
 
 module _ (d : ℕ) (s E S W : List ℕ) (g : Ends s E) (p : ℕ) (m : Measured s S W p) where
   abbrev Tree : Head → SType
@@ -118,7 +112,7 @@ module _ (d : ℕ) (s E S W : List ℕ) (g : Ends s E) (p : ℕ) (m : Measured s
   node-facts Faulty f e h = bad-end h
   node-facts Never f e h = refl
   node-facts Boolean f e h = refl
-  node-facts (UInt w) f e h = let (x, y) = width-range (w .0) (f .admitted) in uint-facts (w .0) x y
+  node-facts (UInt w) f e h = let (x, y) = width-range w f in uint-facts (w .0) x y
   node-facts Either f e h = either-facts e h
   node-facts Opt f e h = let (a, b) = one-child e h in same-facts (ap (λ x. cut (x + 2)) a ∙ omega arith) (ap (λ x. cut (x + 1)) b ∙ omega arith)
   node-facts (Tuple n) f e h = row-facts n e h ∙ ap (λ l. factsTrue (productOf l)) (sym (lows-kids d s n p))

@@ -1,17 +1,11 @@
 -- What is computed of a record from its children's entries is true of what stands there.
-use mathlib.Core.Path.{_≡_, refl, sym, ap, _∙_}
-use mathlib.Core.List.{List, [], _∷_}
-use mathlib.Core.Bool.{Bool, true, false, _||_}
+use mathlib.Core.Path.{_≡_, sym, ap, _∙_}
 use Prim.Native.Nat.{ℕ, zero, suc, _+_, _-_, _*_, _^_, _≤_}
 use native.Mathlib.Nat.{two-pow-succ, one-le-pow, zero-mul, suc-mul, mul-suc, add-mul, le-trans}
 use native.Mathlib.Decide.{decLe}
 use native.Mathlib.Omega.{arith}
-use lib.Dec.{eqb, lit≤}
-use borrow.Author.Tests.{eqb-true}
-use Rattle.model.specs.Options.{one-of, All}
 use Rattle.model.specs.Structural.{SType, partition-type}
 use Rattle.model.specs.Frames.{width}
-use Rattle.model.specs.TypeFiles.{widths}
 use Rattle.model.specs.Laws.Sizes.{nodes, nodes-partition-zero, nodes-partition-suc, width-partition-zero, width-partition-suc}
 use Rattle.table.specs.Facts.{limit, cut}
 
@@ -64,17 +58,3 @@ list-bits e b t h =
     let o : 1 ≤ b = rw h (one-le-pow (suc e) 2 (omega arith)) in
     let k : b * width t ≡ 2 ^ suc e * width t = ap (λ n. n * width t) h in
     omega (arith, list-width e t, less-one b (width t) o)
-
--- BY HEAD
-
-one-all : (P : ℕ → Type 0) (n : ℕ) (ms : List ℕ) → All P ms → one-of n ms ≡ true → P n
-one-all P n [] h k = absurd (let z : _≡_ {A = ℕ} 0 1 = cc in omega arith)
-one-all P n (m ∷ ms) h k = go (eqb n m) refl (one-all P n ms (h .1)) k
-  where
-    go : (x : Bool) → eqb n m ≡ x → (one-of n ms ≡ true → P n) → x || one-of n ms ≡ true → P n
-    go true e f q = rw (eqb-true n m e) (h .0)
-    go false e f q = f q
-
--- a width is 1 to 256
-pub width-range : (n : ℕ) → one-of n widths ≡ true → (1 ≤ n) × (n ≤ 256)
-width-range n = one-all (λ n. (1 ≤ n) × (n ≤ 256)) n widths ((lit≤ tt, lit≤ tt), ((lit≤ tt, lit≤ tt), ((lit≤ tt, lit≤ tt), ((lit≤ tt, lit≤ tt), ((lit≤ tt, lit≤ tt), ((lit≤ tt, lit≤ tt), ((lit≤ tt, lit≤ tt), ((lit≤ tt, lit≤ tt), ((lit≤ tt, lit≤ tt), tt)))))))))

@@ -4,7 +4,7 @@ use mathlib.Core.List.{List, _∷_}
 use mathlib.Core.Bool.{Bool}
 use Prim.Native.Nat.{ℕ, zero, suc, _+_}
 use native.Mathlib.Nat.{zero-add, suc-add}
-use lib.ListN.{length, take, drop}
+use lib.ListN.{take, drop}
 use Rattle.model.specs.Structural.{SType}
 use Rattle.types.specs.declared.Walk.the-variants.{End}
 use Rattle.types.specs.Walks.{next, many, walk}
@@ -22,11 +22,6 @@ module _ (d : ℕ) (v : Bool) (s : List ℕ) where
   unfolding skip
   skip-add zero n p = ap (λ k. skip k p) (zero-add n)
   skip-add (suc m) n p = ap (λ k. skip k p) (suc-add m n) ∙ skip-add m n (endOf (walk d v s p))
-
-  pub length-lows : (n p : ℕ) → length (lows d v s n p) ≡ n
-  unfolding lows
-  length-lows zero p = refl
-  length-lows (suc n) p = ap suc (length-lows n (endOf (walk d v s p)))
 
   pub take-lows : (m n p : ℕ) → take m (lows d v s (m + n) p) ≡ lows d v s m p
   unfolding lows

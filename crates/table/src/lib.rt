@@ -38,7 +38,7 @@ pub struct Flags {
 }
 
 // A number, or 65,537 if it is larger.
-fn cut_off(n: usize) -> usize
+pub fn cut_off(n: usize) -> usize
     ensures { λ r. ⌜ r ≡ cut n ⌝ }
 {
     if n < 65537 { n } else { 65537 }
@@ -63,7 +63,7 @@ fn entry_at(column: &[usize], i: usize) -> usize
 }
 
 // The end of the record at place i; 0 past the table's end.
-fn end_at(ends: &[usize], i: usize) -> usize
+pub fn end_at(ends: &[usize], i: usize) -> usize
     ensures { λ r. ⌜ r ≡ getD (now (ends .entry)) i 0 ⌝ }
 {
     if i < ends.len() { ends[i] } else { 0 }

@@ -2,20 +2,23 @@
 use mathlib.Core.Path.{_≡_, refl, sym, ap, subst, _∙_}
 use mathlib.Core.Bool.{Bool, true, false}
 use mathlib.Core.Option.{some}
-use Prim.Native.Nat.{ℕ, suc, _^_, _<_, _≤_}
+use Prim.Native.Nat.{ℕ, suc, _+_, _^_, _<_, _≤_}
+use native.Mathlib.Nat.{pow-le-pow-right, two-pow-succ, one-le-pow}
 use native.Mathlib.Omega.{arith}
 use lib.Dec.{eqb}
 use borrow.Author.Tests.{eqb-false}
 use Rattle.model.specs.Options.{pick, one-of, find}
 use Rattle.model.specs.TypeFiles.{widths}
+use Rattle.model.specs.Laws.Options.{one-of-all}
+use Rattle.model.specs.Laws.TypeFiles.{find-sound}
 use Rattle.num.specs.declared.NonZeroPow2Usize.{NonZeroPow2Usize}
 use Rattle.num.specs.declared.Pow2Usize.{Pow2Usize}
 use Rattle.num.specs.declared.Bound.{Bound}
 use Rattle.num.specs.declared.Bound.the-variants as bounds
 use Rattle.num.specs.declared.Width.{Width}
 use Rattle.num.specs.declared.Width.the-variants as bit-widths
-use Rattle.num.specs.Powers.{bound-of, width-of}
-use Rattle.num.specs.Laws.{bound-is, width-is}
+use Rattle.num.specs.Powers.{bound-of, bound-log2, width-of}
+use Rattle.num.specs.Laws.{bounded, bound-is, width-is}
 use Rattle.types.specs.declared.Head.{Head}
 use Rattle.types.specs.declared.Head.the-variants.{Missing, Faulty, Never, Boolean, UInt, Either, Opt, Tuple, Array, Listed, Variants, Payload}
 use Rattle.types.specs.Record.{by-width, by-bound, headOf}
@@ -27,6 +30,25 @@ pub record FairWidth (w : Pow2Usize) : Type 0 where
 pub record FairBound (b : NonZeroPow2Usize) : Type 0 where
   pub exponent : ℕ
   pub admitted : find (λ e. 2 ^ suc e) 15 0 (b .0) ≡ some exponent
+
+-- a width is 1 to 256
+pub width-range : (w : Pow2Usize) → FairWidth w → (1 ≤ w .0) × (w .0 ≤ 256)
+width-range w f = one-of-all (λ n. (1 ≤ n) × (n ≤ 256)) (w .0) widths (omega arith) (f .admitted)
+
+-- a bound is 2 to 32,768
+pub bound-range : (b : NonZeroPow2Usize) → FairBound b → (2 ≤ b .0) × (b .0 ≤ 32768)
+bound-range b f =
+    let (e, l) = find-sound (λ e. 2 ^ suc e) 15 0 (b .0) (f .exponent) (f .admitted) in
+    let m : suc (f .exponent) ≤ 15 = omega arith in
+    let u : 2 ^ suc (f .exponent) ≤ 2 ^ 15 = pow-le-pow-right {n = 2} (omega arith) {i = suc (f .exponent)} {j = 15} m in
+    (omega (arith, two-pow-succ (f .exponent), one-le-pow (f .exponent) 2 (omega arith)), omega arith)
+
+-- its logarithm 1 to 15
+pub log-range : (b : NonZeroPow2Usize) → FairBound b → (1 ≤ bound-log2 (b .0)) × (bound-log2 (b .0) ≤ 15)
+log-range b f =
+    let l : f .exponent < 0 + 15 = find-sound (λ e. 2 ^ suc e) 15 0 (b .0) (f .exponent) (f .admitted) .1 in
+    let k = bounded (b .0) (f .exponent) (f .admitted) .log2 in
+    (omega arith, omega arith)
 
 abbrev pub Fair : Head → Type 0
 Fair Missing = Unit

@@ -3,6 +3,7 @@ use mathlib.Core.Path.{_≡_, refl, ap}
 use mathlib.Core.List.{List, [], _∷_}
 use mathlib.Core.Bool.{Bool, true, false}
 use Prim.Native.Nat.{ℕ, zero, suc}
+use lib.ListN.{length}
 use Rattle.model.specs.Structural.{SType, productOf}
 use Rattle.model.specs.Lowering.{lower, lowers, payloads}
 use Rattle.types.specs.Walks.{walk}
@@ -16,6 +17,11 @@ low d true s at = productOf (lowers (treev d s at))
 unfoldable pub lows : ℕ → Bool → List ℕ → ℕ → ℕ → List SType
 lows d v s zero at = []
 lows d v s (suc n) at = low d v s at ∷ lows d v s n (endOf (walk d v s at))
+
+pub length-lows : (d : ℕ) (v : Bool) (s : List ℕ) (n at : ℕ) → length (lows d v s n at) ≡ n
+unfolding lows
+length-lows d v s zero at = refl
+length-lows d v s (suc n) at = ap suc (length-lows d v s n (endOf (walk d v s at)))
 
 pub lows-kids : (d : ℕ) (s : List ℕ) (n at : ℕ) → lowers (kids (tree d s) (walk d false s) n at) ≡ lows d false s n at
 unfolding lows low kids lower

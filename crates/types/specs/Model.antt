@@ -8,21 +8,21 @@ use mathlib.Core.List.{List, [], _∷_, map}
 use mathlib.Core.Bool.{Bool, true, false, not, _||_}
 use mathlib.Core.Option.{Option, none, some}
 use Prim.Native.Nat.{ℕ, zero, suc, _+_, _*_, _/_, _%_, _^_, _<_, _≤_}
-use native.Mathlib.Nat.{add-zero, zero-mul, suc-mul}
+use native.Mathlib.Nat.{add-zero}
 use native.Mathlib.Numerals.{add-one, sub-one}
 use native.Mathlib.Omega.{arith}
 use lib.Dec.{ltb, leb, eqb, eqb·suc-zero}
 use lib.ListN.{length, take, drop, getD, length-map, drop-of-length-le}
-use lib.Seq.{drop-cons, drop-drop, getD-take, getD-drop}
+use lib.Seq.{drop-cons, getD-take, getD-drop}
 use borrow.Author.Tests.{ltb-true, ltb-false, lt-ltb, le-ltb, leb-true, leb-false, eqb-true, eqb-false, ne-eqb}
 use Rattle.model.specs.Numbers.{type-length, type-too-long, bad-record, too-deep, not-one-type, most-type-records, deepest}
 use Rattle.model.specs.Outcome.{Outcome, done, refused, _>>=_, _>>_, refuse, or-refuse, all-read}
 use Rattle.model.specs.Options.{pick, when, mapO, one-of, find}
-use Rattle.model.specs.Bytes.{cut, records}
+use Rattle.model.specs.Bytes.{records}
 use Rattle.model.specs.Types.{Ty, Tys, either, option, tuple, array, list, enum, nil, cons, last, more}
 use Rattle.model.specs.TypeFiles as file
 use Rattle.model.specs.TypeFiles.{TRec, type-record, Reader, made, on-record, widths, is-never, is-bool, is-either, is-option, is-uint, is-tuple, is-array, is-list, is-enum, head, variant-parts, read-types, read-variants, read-children, read-type, read-variant, type-of, trec}
-use Rattle.model.specs.Laws.Records.{length-cut}
+use Rattle.model.specs.Laws.Records.{length-cut, cut-at}
 use Rattle.num.specs.declared.Width.the-variants as bit-widths
 use Rattle.num.specs.Powers.{bound, bound-if, bound-of, bound-log2, width, width-of}
 use Rattle.num.specs.Laws.{bounded}
@@ -49,14 +49,6 @@ rows s = map type-record (records 4 s)
 -- the record at place `at`
 abbrev pub row : List ℕ → ℕ → TRec
 row s at = record { kind = getD s (at * 4) 0; spare = getD s (at * 4 + 1) 0; n = getD s (at * 4 + 2) 0 * 256 + getD s (at * 4 + 3) 0 }
-
--- record i of the first k, as it is read
-cut-at : {A : Type 0} (size : ℕ) (f : List ℕ → A) (k i : ℕ) (l : List ℕ) (x : A) → i < k → getD (map f (cut size k l)) i x ≡ f (take size (drop (i * size) l))
-cut-at size f zero i l x h = absurd (omega arith)
-cut-at size f (suc k) zero l x h = ap (λ n. f (take size (drop n l))) (sym (zero-mul size))
-cut-at size f (suc k) (suc i) l x h =
-    let e : size + i * size ≡ suc i * size = omega (arith, suc-mul i size) in
-    cut-at size f k i (drop size l) x (omega arith) ∙ ap (λ m. f (take size m)) (drop-drop (i * size) size l ∙ ap (λ n. drop n l) e)
 
 length-rows : (s : List ℕ) → length (rows s) ≡ length s / 4
 length-rows s = length-map (records 4 s) type-record ∙ length-cut 4 (length s / 4) s

@@ -13,8 +13,9 @@ use Rattle.types.specs.declared.Walk.the-variants.{End}
 use Rattle.types.specs.Record.{headAt, callsFor, recAt}
 use Rattle.types.specs.Walks.{many, walk}
 use Rattle.types.specs.Table.{Ends}
-use Rattle.types.specs.Trees.{endOf, kids, node, payload, tree, treev}
-use Rattle.model.specs.Types.{Ty, cons}
+use Rattle.types.specs.Trees.{endOf, kids, cases, node, payload, tree, treev}
+use Rattle.model.specs.Types.{Ty, Tys, cons, size}
+use Rattle.model.specs.Types as model
 use Rattle.types.specs.Unique.{bad-end, kind, count, opened, nexts, inside}
 
 -- a whole subtree starts here, with d levels from here on
@@ -111,6 +112,17 @@ module _ {d : ℕ} {v : Bool} {s E : List ℕ} {at : ℕ} where
 
   pub given-rest : {n : ℕ} → (n ≡ 0 → ⊥) → GivenRow d v s E n at → GivenRow d v s E (n - 1) (getD E at 0)
   given-rest {n} h g = record { row = rw (given-end (given-first h g)) (row-rest v s at n h (g .row)); ends = g .ends }
+
+-- as many children as were asked for
+pub size-kids : (g : ℕ → Ty) (f : ℕ → Walk) (n at : ℕ) → size (kids g f n at) ≡ n
+unfolding kids
+size-kids g f zero at = refl
+size-kids g f (suc n) at = ap suc (size-kids g f n (endOf (f at)))
+
+pub count-cases : (g : ℕ → Tys) (f : ℕ → Walk) (n at : ℕ) → model.count (cases g f n at) ≡ suc n
+unfolding cases
+count-cases g f zero at = refl
+count-cases g f (suc n) at = ap suc (count-cases g f n (endOf (f at)))
 
 pub kids-more : (g : ℕ → Ty) (f : ℕ → Walk) (n at : ℕ) → (n ≡ 0 → ⊥) → kids g f n at ≡ cons (g at) (kids g f (n - 1) (endOf (f at)))
 unfolding kids

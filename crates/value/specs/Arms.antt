@@ -17,9 +17,8 @@ use Rattle.model.specs.Laws.Balanced.{split-bounds, btree-leaves, btree-fork}
 use Rattle.num.specs.declared.NonZeroPow2Usize.{NonZeroPow2Usize}
 use Rattle.num.specs.declared.Pow2Usize.{Pow2Usize}
 use Rattle.num.specs.Powers.{bound-log2}
-use Rattle.types.specs.Heads.{FairWidth, FairBound}
+use Rattle.types.specs.Heads.{FairWidth, FairBound, width-range, log-range}
 use Rattle.table.specs.Facts.{cut}
-use Rattle.table.specs.Arms.{wide, log-range}
 use Rattle.value.specs.declared.Choice.{Choice}
 use Rattle.value.specs.declared.Choice.the-variants.{Zero, One, Neither}
 use Rattle.value.specs.declared.Count.{Count}
@@ -207,13 +206,13 @@ module _ (n h : ℕ) (l : 2 ≤ n) (p : h ≡ btree-split-index n) where
 -- KINDS
 
 pub width-small : (w : Pow2Usize) (n : ℕ) → FairWidth w → n ≡ w .0 → n ≤ 256
-width-small w n f e = let r = wide w f in omega arith
+width-small w n f e = let r = width-range w f in omega arith
 
 pub twice-fits : (w : Pow2Usize) (n : ℕ) → FairWidth w → n ≡ w .0 → Fits w64 (2 * n)
-twice-fits w n f e = let r = wide w f in omega arith
+twice-fits w n f e = let r = width-range w f in omega arith
 
 pub width-fits : (w : Pow2Usize) (n j : ℕ) → FairWidth w → n ≡ w .0 → j ≡ joints n → Fits w64 (j + 2 * n)
-width-fits w n j f e i = let r = wide w f in let h : n ≡ 0 → ⊥ = λ z. omega arith in let q = i ∙ sym (joints-some n h) in omega arith
+width-fits w n j f e i = let r = width-range w f in let h : n ≡ 0 → ⊥ = λ z. omega arith in let q = i ∙ sym (joints-some n h) in omega arith
 
 module _ (s : List ℕ) (v w n : ℕ) (e : n ≡ w) (a : Bool) (p : a ≡ starts s v 2 0) where
   pub uint-none : a ≡ false → Wrong ≡ uint-opens w s v

@@ -12,20 +12,20 @@ use mir.Val.{Fits}
 use borrow.Author.Tests.{ltb-true, ltb-false}
 use Rattle.model.specs.Options.{pick}
 use Rattle.model.specs.Balanced.{btree}
-use Rattle.model.specs.Types.{Tys, uint, enum, size, count}
+use Rattle.model.specs.Types.{uint, enum, size, count}
 use Rattle.num.specs.Powers.{bound-log2}
 use Rattle.num.specs.Laws.{bounded}
 use Rattle.types.specs.declared.Head.{Head}
 use Rattle.types.specs.declared.Head.the-variants.{Missing, Faulty, Never, Boolean, UInt, Either, Opt, Tuple, Array, Listed, Payload}
 use Rattle.types.specs.declared.Head.the-variants as head
-use Rattle.types.specs.declared.Walk.{Walk}
 use Rattle.types.specs.Record.{headAt, callsFor, recAt}
 use Rattle.types.specs.Heads.{Fair}
 use Rattle.types.specs.Walks.{walk}
 use Rattle.types.specs.Unique.{kind}
 use Rattle.types.specs.Unique as unique
 use Rattle.types.specs.Trees.{endOf, kids, cases, node, tree, treev}
-use Rattle.types.specs.Steps.{Given, GivenRow, given-levels, given-head, given-first, given-end, given-rest, tree-in}
+use Rattle.types.specs.Steps.{Given, GivenRow, given-levels, given-head, given-first, given-end, given-rest, tree-in, size-kids}
+pub use Rattle.types.specs.Steps.{count-cases}
 use Rattle.value.specs.declared.Choice.{Choice}
 use Rattle.value.specs.declared.Choice.the-variants.{Zero, One, Neither}
 use Rattle.value.specs.declared.Count.{Count}
@@ -39,7 +39,7 @@ use Rattle.value.specs.Lengths.{add, joints, blocks, tags}
 use Rattle.value.specs.Opening.{by-choice, counted, uint-opens, list-opens, enum-opens, opens-of, hop}
 use Rattle.value.specs.Check.{wrong, side, says, next, run, check, checks, check-case, parts}
 use Rattle.value.specs.Arms.{starts-there}
-use Rattle.value.specs.Steps.{GivenIf, Here, rec-here, given-hop, size-kids}
+use Rattle.value.specs.Steps.{GivenIf, Here, rec-here, given-hop}
 
 -- d levels are left for the children, the first of which stands at p
 unfoldable pub follow : ℕ → List ℕ → List ℕ → ℕ → List ℕ → ℕ → ℕ → Opens → Checked
@@ -58,11 +58,6 @@ run-one f v k = go (f v k)
     go : (c : Checked) → next c (run f 0) ≡ c
     go (Next e j) = refl
     go (Bad x) = refl
-
-pub count-cases : (g : ℕ → Tys) (f : ℕ → Walk) (n at : ℕ) → count (cases g f n at) ≡ suc n
-unfolding cases
-count-cases g f zero at = refl
-count-cases g f (suc n) at = ap suc (count-cases g f n (endOf (f at)))
 
 module _ (d : ℕ) (s E : List ℕ) (val : List ℕ) (v k : ℕ) where
   side-follow : (p : ℕ) (c : Choice) (a b : Opens) → side c (follow d s E p val v k a) (follow d s E p val v k b) ≡ follow d s E p val v k (by-choice c a b)

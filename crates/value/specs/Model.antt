@@ -6,7 +6,7 @@ use mathlib.Core.List.{List, [], _∷_, map}
 use mathlib.Core.Bool.{Bool, true, false, not, _&&_, _||_}
 use mathlib.Core.Option.{Option, none, some, Option·some-injective}
 use Prim.Native.Nat.{ℕ, zero, suc, _+_, _*_, _/_, _%_, _^_, _<_, _≤_}
-use native.Mathlib.Nat.{zero-add, add-zero, zero-mul, suc-mul}
+use native.Mathlib.Nat.{zero-add, add-zero}
 use native.Mathlib.Numerals.{add-one}
 use native.Mathlib.Omega.{arith}
 use lib.Dec.{ltb, eqb}
@@ -19,9 +19,9 @@ use Rattle.model.specs.Numbers.{value-length, not-one-value, most-shape-records
 use Rattle.model.specs.Outcome.{Outcome, done, refused, _>>=_, _>>_, refuse, or-refuse, all-read}
 use Rattle.model.specs.ShapeFiles.{shape-file}
 use Rattle.model.specs.Options.{pick, when, bindO}
-use Rattle.model.specs.Bytes.{cut, records, number}
+use Rattle.model.specs.Bytes.{records, number, to-bits}
 use Rattle.model.specs.ValueFiles.{Rec, rec, value-record, same, made, on-record, many, parse-at, parses, parse-choice, parse, value-of}
-use Rattle.model.specs.Laws.Records.{length-cut}
+use Rattle.model.specs.Laws.Records.{drop-take, length-cut, cut-at}
 use Rattle.value.specs.declared.Choice.the-variants.{Zero, One, Neither}
 use Rattle.value.specs.declared.Count.the-variants.{Of, Not}
 use Rattle.value.specs.declared.Checked.{Checked}
@@ -30,7 +30,6 @@ use Rattle.value.specs.Record.{starts, number-at, integer-bytes, below, 
 use Rattle.value.specs.Lengths.{add, joints, blocks, tags}
 use Rattle.value.specs.Check.{wrong, side, says, next, run, check, checks, check-case, whole, file-answer}
 use Rattle.value.specs.Sizes.{shape-size, sizes, size-tuple, size-left-of, size-right-of, add-integer, add-list, add-enum}
-use Rattle.model.specs.Bytes.{to-bits}
 use Rattle.model.specs.Structural.{SValue, shape-records, type-records, tupleOf, partition, enum-injection}
 use Rattle.model.specs.Balanced.{btree}
 use Rattle.model.specs.Laws.Shapes.{length-injects, inject-belongs}
@@ -51,25 +50,8 @@ rows s = map value-record (records 36 s)
 abbrev pub row : List ℕ → ℕ → Rec
 row s v = rec (getD s (v * 36) 0) (getD s (v * 36 + 1) 0) (getD s (v * 36 + 2) 0 * 256 + getD s (v * 36 + 3) 0) (number (take 32 (drop (v * 36 + 4) s)))
 
-cut-at : {A : Type 0} (size : ℕ) (f : List ℕ → A) (k i : ℕ) (l : List ℕ) (x : A) → i < k → getD (map f (cut size k l)) i x ≡ f (take size (drop (i * size) l))
-cut-at size f zero i l x h = absurd (omega arith)
-cut-at size f (suc k) zero l x h = ap (λ n. f (take size (drop n l))) (sym (zero-mul size))
-cut-at size f (suc k) (suc i) l x h =
-    let e : size + i * size ≡ suc i * size = omega (arith, suc-mul i size) in
-    cut-at size f k i (drop size l) x (omega arith) ∙ ap (λ m. f (take size m)) (drop-drop (i * size) size l ∙ ap (λ n. drop n l) e)
-
 pub length-rows : (s : List ℕ) → length (rows s) ≡ length s / 36
 length-rows s = length-map (records 36 s) value-record ∙ length-cut 36 (length s / 36) s
-
-drop-take : (n m t : ℕ) (l : List ℕ) → t ≡ n + m → drop n (take t l) ≡ take m (drop n l)
-drop-take zero m t l e = ap (λ i. take i l) (e ∙ zero-add m)
-drop-take (suc n) m zero l e = absurd (omega arith)
-drop-take (suc n) m (suc t) [] e = go m
-  where
-    go : (m : ℕ) → _≡_ {A = List ℕ} [] (take m [])
-    go zero = refl
-    go (suc m) = refl
-drop-take (suc n) m (suc t) (x ∷ l) e = drop-take n m t l (omega arith)
 
 row-bytes : (s : List ℕ) (v : ℕ) → value-record (take 36 (drop (v * 36) s)) ≡ row s v
 row-bytes s v = λ i. record { kind = (byte 0 (omega arith) ∙ ap (λ n. getD s n 0) (add-zero (v * 36))) i; choice = byte 1 (omega arith) i; n = byte 2 (omega arith) i * 256 + byte 3 (omega arith) i; integer = number (integer i) }
@@ -78,7 +60,7 @@ row-bytes s v = λ i. record { kind = (byte 0 (omega arith) ∙ ap (λ n. getD s
     byte j h = getD-take 36 (drop (v * 36) s) j 0 h ∙ getD-drop (v * 36) s j 0
 
     integer : drop 4 (take 36 (drop (v * 36) s)) ≡ take 32 (drop (v * 36 + 4) s)
-    integer = drop-take 4 32 36 (drop (v * 36) s) refl ∙ ap (take 32) (drop-drop 4 (v * 36) s)
+    integer = drop-take 4 32 (drop (v * 36) s) ∙ ap (take 32) (drop-drop 4 (v * 36) s)
 
 pub rows-end : (s : List ℕ) (v : ℕ) → length s / 36 ≤ v → drop v (rows s) ≡ []
 rows-end s v h = let l : length (rows s) ≤ v = omega (arith, length-rows s) in drop-of-length-le (rows s) l

@@ -1,5 +1,5 @@
 -- From a type's record to its children, in the form in which the code's needs ask it. Assumes nothing.
-use mathlib.Core.Path.{_≡_, refl, sym, ap, subst, _∙_}
+use mathlib.Core.Path.{_≡_, refl, sym, subst, _∙_}
 use mathlib.Core.Bool.{Bool, true, false}
 use mathlib.Core.List.{List}
 use Prim.Native.Nat.{ℕ, zero, suc, _+_, _-_, _*_, _^_, _<_, _≤_}
@@ -15,10 +15,10 @@ use Rattle.types.specs.declared.Walk.the-variants.{End}
 use Rattle.types.specs.Record.{recAt}
 use Rattle.types.specs.Walks.{opens, walk}
 use Rattle.types.specs.Unique.{bad-end}
-use Rattle.types.specs.Trees.{endOf, kids, payload, tree, treev}
-use Rattle.types.specs.Steps.{Given, GivenRow, given-levels, given-within, given-below, given-first, given-end, given-rest, treev-in, kids-more}
+use Rattle.types.specs.Trees.{kids, payload, tree, treev}
+use Rattle.types.specs.Steps.{Given, GivenRow, given-levels, given-within, given-below, given-first, given-end, given-rest, treev-in, size-kids, kids-more}
 use Rattle.reply.specs.declared.Refusal.{Refusal}
-use Rattle.model.specs.Types.{Ty, size}
+use Rattle.model.specs.Types.{size}
 use Rattle.value.specs.declared.Checked.{Checked}
 use Rattle.value.specs.declared.Checked.the-variants.{Next, Bad}
 use Rattle.value.specs.Lengths.{add, joints}
@@ -96,11 +96,6 @@ into-payload {d} t g e = let h = given-levels g in omega arith
 
 pub into-one : (d t : ℕ) → d * 2 + 1 ≡ t → d * 2 < t
 into-one d t e = omega arith
-
-pub size-kids : (g : ℕ → Ty) (f : ℕ → Walk) (n at : ℕ) → size (kids g f n at) ≡ n
-unfolding kids
-size-kids g f zero at = refl
-size-kids g f (suc n) at = ap suc (size-kids g f n (endOf (f at)))
 
 -- LOOPS: what is left decides
 

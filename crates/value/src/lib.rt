@@ -4,6 +4,8 @@ use array::btree_split_index;
 use num::NonZeroPow2Usize;
 use num::Pow2Usize;
 use reply::Refusal;
+use table::cut_off;
+use table::end_at;
 use types::Head;
 use types::Rec;
 use types::head_at;
@@ -11,13 +13,12 @@ use types::rec_at;
 ghost use mathlib.Core.Path.{_≡_};
 ghost use mathlib.Core.Bool.{true, false};
 ghost use Prim.Native.Nat.{_≤_, _<_, _+_, _*_, _/_, _^_};
-ghost use lib.ListN.{length, getD};
+ghost use lib.ListN.{length};
 ghost use Rattle.model.specs.Balanced.{btree};
 ghost use Rattle.types.specs.Heads.{Fair, FairWidth, FairBound};
 ghost use Rattle.types.specs.Steps.{Given, GivenRow};
 ghost use Rattle.types.specs.Trees.{tree, treev, kids};
 ghost use Rattle.types.specs.Walks.{walk};
-ghost use Rattle.table.specs.Facts.{cut};
 ghost use Rattle.value.specs.Record.{starts, number-at, below, clear, choice-at, count-at};
 ghost use Rattle.value.specs.Lengths.{add, joints, blocks, tags};
 ghost use Rattle.value.specs.Opening.{by-choice, counted, uint-opens, list-opens, enum-opens, opens-of, hop};
@@ -56,13 +57,6 @@ pub fn wide(x: u8) -> usize
     ensures { λ r. ⌜ (r ≡ x) × (r < 256) ⌝ }
 {
     x as usize
-}
-
-// A number, or 65,537 if it is larger.
-fn cut_off(n: usize) -> usize
-    ensures { λ r. ⌜ r ≡ cut n ⌝ }
-{
-    if n < 65537 { n } else { 65537 }
 }
 
 // The sum of two lengths, cut.
@@ -137,13 +131,6 @@ fn hop_over(ends: &[usize], p: usize, i: usize) -> usize
         left -= 1;
     }
     q
-}
-
-// The end of the record at place i; 0 past the table's end.
-fn end_at(ends: &[usize], i: usize) -> usize
-    ensures { λ r. ⌜ r ≡ getD (now (ends .entry)) i 0 ⌝ }
-{
-    if i < ends.len() { ends[i] } else { 0 }
 }
 
 // The number in bytes 2 and 3 of record v.

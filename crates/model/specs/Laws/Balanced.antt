@@ -44,6 +44,19 @@ pub split-bounds : (n : ℕ) → 2 ≤ n → (1 ≤ btree-split-index n) × (btr
 unfolding btree-split-index
 split-bounds n h = let r = half-of n h in omega (arith, r .twice)
 
+-- the same of n parts of which the left side has `few`
+pub record Shares (n few : ℕ) : Type 0 where
+  pub split : few ≡ btree-split-index n
+  pub some : 1 ≤ few
+  pub less : few < n
+
+pub shares : {n few : ℕ} → few ≡ btree-split-index n → 2 ≤ n → Shares n few
+shares {n} e h = let b = split-bounds n h in record { split = e; some = omega arith; less = omega arith }
+
+-- where there are neither none nor one
+pub shares-else : {n few : ℕ} → few ≡ btree-split-index n → (n ≡ 0 → ⊥) → (n ≡ 1 → ⊥) → Shares n few
+shares-else e z o = shares e (omega arith)
+
 pub grow-leaves : (k n : ℕ) → n ≤ k → 1 ≤ n → leaves (grow k n) ≡ n
 unfolding grow
 grow-leaves zero n f h = omega arith

@@ -1,12 +1,14 @@
 -- Laws of the small functions on Option, Bool and lists.
-use mathlib.Core.Path.{_≡_, refl, ap, ap₂}
+use mathlib.Core.Path.{_≡_, refl, sym, ap, ap₂, subst}
 use mathlib.Core.List.{List, [], _∷_, map}
-use mathlib.Core.Bool.{Bool, true, false}
+use mathlib.Core.Bool.{Bool, true, false, _||_, false≢true}
 use mathlib.Core.Option.{Option, none, some, Option·none-ne-some, Option·some-injective}
 use Prim.Native.Nat.{ℕ, suc}
 use native.Mathlib.Omega.{arith}
+use lib.Dec.{eqb}
 use lib.ListN.{length}
-use Rattle.model.specs.Options.{mapO, bindO, when, mapM, All}
+use borrow.Author.Tests.{eqb-true}
+use Rattle.model.specs.Options.{mapO, bindO, when, mapM, one-of, All}
 
 pub bindO-some : {A B : Type 0} (o : Option A) (f : A → Option B) (b : B) → bindO o f ≡ some b → (a : A) × (o ≡ some a) × (f a ≡ some b)
 bindO-some none f b h = absurd (Option·none-ne-some b h)
@@ -15,6 +17,34 @@ bindO-some (some a) f b h = (a, refl, h)
 pub mapO-some : {A B : Type 0} (f : A → B) (o : Option A) (b : B) → mapO f o ≡ some b → (a : A) × (o ≡ some a) × (f a ≡ b)
 mapO-some f none b h = absurd (Option·none-ne-some b h)
 mapO-some f (some a) b h = (a, refl, Option·some-injective _ _ h)
+
+module _ {A B C : Type 0} where
+  pub mapO-mapO : (f : A → B) (g : B → C) (o : Option A) → mapO g (mapO f o) ≡ mapO (λ x. g (f x)) o
+  mapO-mapO f g none = refl
+  mapO-mapO f g (some x) = refl
+
+  pub mapO-bindO : (f : A → Option B) (g : B → C) (o : Option A) → mapO g (bindO o f) ≡ bindO o (λ x. mapO g (f x))
+  mapO-bindO f g none = refl
+  mapO-bindO f g (some x) = refl
+
+-- functions that agree on what is there give the same
+module _ {A B : Type 0} where
+  pub mapO-known : (o : Option A) (f g : A → B) → ((x : A) → o ≡ some x → f x ≡ g x) → mapO f o ≡ mapO g o
+  mapO-known none f g h = refl
+  mapO-known (some x) f g h = ap some (h x refl)
+
+  pub bindO-known : (o : Option A) (f g : A → Option B) → ((x : A) → o ≡ some x → f x ≡ g x) → bindO o f ≡ bindO o g
+  bindO-known none f g h = refl
+  bindO-known (some x) f g h = h x refl
+
+-- what holds of each number of a list holds of one that is found in it
+pub one-of-all : (P : ℕ → Type 0) (n : ℕ) (l : List ℕ) → All P l → one-of n l ≡ true → P n
+one-of-all P n [] a h = absurd (false≢true h)
+one-of-all P n (m ∷ ms) a h = go (eqb n m) refl (one-of-all P n ms (a .1)) h
+  where
+    go : (b : Bool) → eqb n m ≡ b → (one-of n ms ≡ true → P n) → (b || one-of n ms) ≡ true → P n
+    go true e rest q = subst P (sym (eqb-true n m e)) (a .0)
+    go false e rest q = rest q
 
 -- reading each element of a mapped list
 pub mapM-map : {A B : Type 0} (P : A → Type 0) (f : B → Option A) (g : A → B) → ((x : A) → P x → f (g x) ≡ some x) → (xs : List A) → All P xs → mapM f (map g xs) ≡ some xs

@@ -3,9 +3,9 @@ use mathlib.Core.Path.{_≡_, refl, sym, ap, ap₂, _∙_}
 use mathlib.Core.List.{List, [], _∷_, _++_, map, append-assoc}
 use Prim.Native.Nat.{ℕ, zero, suc, _+_, _*_, _/_, _<_}
 use native.Mathlib.Omega.{arith}
-use native.Mathlib.Nat.{zero-mul, mul-zero, suc-mul, mul-suc, add-comm}
-use lib.ListN.{length, take, drop, length-append, length-take, length-drop, take-append-drop}
-use lib.Seq.{take-at, drop-at, take-nil, drop-nil, take-append-add, drop-append-add}
+use native.Mathlib.Nat.{zero-add, suc-add, zero-mul, mul-zero, suc-mul, mul-suc, add-comm}
+use lib.ListN.{length, take, drop, getD, length-append, length-take, length-drop, take-append-drop}
+use lib.Seq.{take-at, drop-at, drop-drop, take-nil, drop-nil, take-append-add, drop-append-add}
 use Rattle.model.specs.Options.{flatMap, All}
 use Rattle.model.specs.Bytes.{Bytes, cut, records, two}
 
@@ -32,6 +32,12 @@ all-flatMap P Q f h (x ∷ xs) k = all-append Q (f x) (flatMap f xs) (h x (k .0)
 pub flatMap-append : {A B : Type 0} (f : A → List B) (xs ys : List A) → flatMap f (xs ++ ys) ≡ flatMap f xs ++ flatMap f ys
 flatMap-append f [] ys = refl
 flatMap-append f (x ∷ xs) ys = ap (λ l. f x ++ l) (flatMap-append f xs ys) ∙ sym (append-assoc (f x) (flatMap f xs) (flatMap f ys))
+
+-- the last n of the first m + n
+pub drop-take : {A : Type 0} (m n : ℕ) (l : List A) → drop m (take (m + n) l) ≡ take n (drop m l)
+drop-take zero n l = ap (λ i. take i l) (zero-add n)
+drop-take (suc m) n [] = ap (λ i. drop (suc m) (take i [])) (suc-add m n) ∙ sym (take-nil n)
+drop-take (suc m) n (x ∷ l) = ap (λ i. drop (suc m) (take i (x ∷ l))) (suc-add m n) ∙ drop-take m n l
 
 -- RECORDS
 
@@ -82,6 +88,14 @@ module _ {A : Type 0} (size : ℕ) (write : A → List ℕ) (sized : (x : A) →
 pub length-cut : (size k : ℕ) (l : List ℕ) → length (cut size k l) ≡ k
 length-cut size zero l = refl
 length-cut size (suc k) l = ap suc (length-cut size k (drop size l))
+
+-- record i of the first k, as it is read
+pub cut-at : {A : Type 0} (size : ℕ) (f : List ℕ → A) (k i : ℕ) (l : List ℕ) (x : A) → i < k → getD (map f (cut size k l)) i x ≡ f (take size (drop (i * size) l))
+cut-at size f zero i l x h = absurd (omega arith)
+cut-at size f (suc k) zero l x h = ap (λ n. f (take size (drop n l))) (sym (zero-mul size))
+cut-at size f (suc k) (suc i) l x h =
+    let e : size + i * size ≡ suc i * size = omega (arith, suc-mul i size) in
+    cut-at size f k i (drop size l) x (omega arith) ∙ ap (λ m. f (take size m)) (drop-drop (i * size) size l ∙ ap (λ n. drop n l) e)
 
 -- a two-byte number
 pub two-of : (a b n : ℕ) → a < 256 → b < 256 → n ≡ a * 256 + b → two n ≡ a ∷ b ∷ []

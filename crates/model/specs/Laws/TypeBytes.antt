@@ -1,16 +1,14 @@
 -- The file that is written for an allowed type is a list of bytes: each kind is below 10, and each number of a record is below 65,536.
-use mathlib.Core.Path.{_≡_, refl, sym, subst}
-use mathlib.Core.List.{List, [], _∷_}
-use mathlib.Core.Bool.{Bool, true, false, _||_, false≢true}
+use mathlib.Core.Path.{_≡_}
+use mathlib.Core.Bool.{true}
 use Prim.Native.Nat.{ℕ, suc, _^_, _≤_, _<_}
 use native.Mathlib.Nat.{pow-le-pow-right}
 use native.Mathlib.Omega.{arith}
-use lib.Dec.{eqb}
-use borrow.Author.Tests.{eqb-true}
 use Rattle.model.specs.Options.{one-of, All}
 use Rattle.model.specs.Bytes.{Bytes}
 use Rattle.model.specs.Types.{Ty, Tys, Variants, never, bool, uint, either, option, tuple, array, list, enum, nil, cons, last, more}
 use Rattle.model.specs.TypeFiles.{TRec, widths, type-bytes, encode-type, encode-types, encode-variants, type-file}
+use Rattle.model.specs.Laws.Options.{one-of-all}
 use Rattle.model.specs.Laws.Records.{all-append, all-flatMap}
 use Rattle.model.specs.Laws.TypeFiles.{Allowed, AllowedAll, AllowedVariants}
 
@@ -20,14 +18,6 @@ Fits r = (r .kind < 256) × (r .spare < 256) × (r .n < 65536)
 
 fits-bytes : (r : TRec) → Fits r → Bytes (type-bytes r)
 fits-bytes r f = (f .0, (f .1, (omega (arith, f .2), (omega arith, tt))))
-
-one-of-all : (P : ℕ → Type 0) (n : ℕ) (l : List ℕ) → All P l → one-of n l ≡ true → P n
-one-of-all P n [] a h = absurd (false≢true h)
-one-of-all P n (m ∷ ms) a h = go (eqb n m) refl (one-of-all P n ms (a .1)) h
-  where
-    go : (b : Bool) → eqb n m ≡ b → (one-of n ms ≡ true → P n) → (b || one-of n ms) ≡ true → P n
-    go true e rest q = subst P (sym (eqb-true n m e)) (a .0)
-    go false e rest q = rest q
 
 width-fits : (w : ℕ) → one-of w widths ≡ true → w < 65536
 width-fits w h = one-of-all (λ n. n < 65536) w widths (omega arith) h

@@ -33,6 +33,15 @@ length-unfold-tree (fork l r) (pair s t) ss h =
     let (ys, f, m) = mapO-some _ (unfold-tree r t) ss k in
     ap length (sym m) ∙ length-append xs ys ∙ ap₂ _+_ (length-unfold-tree l s xs e) (length-unfold-tree r t ys f)
 
+-- a choice is of one of the tree's leaves
+pub leaf-below : (t : BTree) (x : SValue) (y : ℕ × SValue) → as-enum-leaf t x ≡ some y → y .0 < leaves t
+unfolding as-enum-leaf
+leaf-below leaf x y h = omega (arith, ap (λ (z : ℕ × SValue). z .0) (Option·some-injective (0, x) y h))
+leaf-below (fork l r) unit y h = absurd (Option·none-ne-some y h)
+leaf-below (fork l r) (left x) y h = omega (arith, leaf-below l x y h)
+leaf-below (fork l r) (right x) y h = let (z, e, k) = mapO-some _ (as-enum-leaf r x) y h in omega (arith, leaf-below r x z e, ap (λ (z : ℕ × SValue). z .0) k)
+leaf-below (fork l r) (pair x z) y h = absurd (Option·none-ne-some y h)
+
 -- a tuple of n parts gives n parts
 pub length-as-tuple : (n : ℕ) (s : SValue) (ss : List SValue) → as-tuple n s ≡ some ss → length ss ≡ n
 length-as-tuple zero s ss h = ap length (sym (Option·some-injective [] ss h))

@@ -10,10 +10,12 @@ use native.Mathlib.Omega.{arith}
 use borrow.Author.Needs.{needs}
 use lib.ListN.{length}
 use Rattle.rebuild.specs.Laws.Steps.{left-fits, right-fits, pair-fits}
+use Rattle.model.specs.Laws.Balanced.{shares-else}
 use Rattle.structural.specs.Laws.Bounds.{bound-small}
+use Rattle.structural.specs.Laws.Forms.{level-some, next-fits}
 use Rattle.rebuild.specs.Laws.Forms.{given-hopped}
 use Rattle.rebuild.specs.declared.Parts.the-variants.{Types}
-use Rattle.rebuild.proofs.Steps.{limits-down, level-some, next-fits, as-product, as-sum, as-list, as-payload, record-refused, record-product, record-sum, record-list, record-payload, product-few, sum-few, list-few, left-few, block-few, copies-given, types-given, part-bit, part-copy, part-type, shares, one-given, left-given, right-given, product-none, product-one, product-no, product-stop, product-on, chosen-first, chosen-left, chosen-right, chosen-no, block-left, block-right, block-no, listed-two, halved, listed-no, listed-stop, listed-on}
+use Rattle.rebuild.proofs.Steps.{limits-down, as-product, as-sum, as-list, as-payload, record-refused, record-product, record-sum, record-list, record-payload, product-few, sum-few, list-few, left-few, block-few, copies-given, types-given, part-bit, part-copy, part-type, one-given, left-given, right-given, product-none, product-one, product-no, product-stop, product-on, chosen-first, chosen-left, chosen-right, chosen-no, block-left, block-right, block-no, listed-two, halved, listed-no, listed-stop, listed-on}
 use borrow.Fn.Kinds.{In}
 use borrow.Fn.PlainCycle.{Measures, is, falls, and}
 use Rattle.rebuild.proofs.read_block.Reads as read-block
@@ -141,7 +143,7 @@ module _ (t : ℕ) where
       (omega arith, (h .fair, (g .1 .1 .0, g .1 .1 .1)))
 
   read-product-sub-others : read-product-lts.Need-sub-others read-product-calls read-product-at read-product.Post
-  read-product-sub-others c = let l = shares (c .btree-split-index .ensures) (c .before .before .before .before .if1 .left) (c .before .before .before .if2 .left) in let m = l .less in omega arith
+  read-product-sub-others c = let l = shares-else (c .btree-split-index .ensures) (c .before .before .before .before .if1 .left) (c .before .before .before .if2 .left) in let m = l .less in omega arith
 
   read-product-add-read-product : read-product-lts.Need-add-read-product read-product-calls read-product-at read-product.Post
   read-product-add-read-product c =
@@ -152,17 +154,17 @@ module _ (t : ℕ) where
   read-product-read-product-requires : read-product-lts.Need-read-product-requires read-product-calls read-product-at read-product.Post
   read-product-read-product-requires c κs =
       let g = c .before .before .before .before .before .before .before .before .pre in
-      let l = shares (c .btree-split-index .ensures) (c .before .before .before .before .if1 .left) (c .before .before .before .if2 .left) in
+      let l = shares-else (c .btree-split-index .ensures) (c .before .before .before .before .if1 .left) (c .before .before .before .if2 .left) in
       let m = l .less in
       (omega arith, (omega arith, (left-given l (g .1 .1 .0), g .1 .1 .1)))
 
   read-product-after-requires : read-product-lts.Need-after-requires read-product-calls read-product-at read-product.Post
-  read-product-after-requires c κs = given-hopped _ (left-given (shares (c .before .before .before .before .btree-split-index .ensures) (c .before .before .before .before .before .before .before .before .if1 .left) (c .before .before .before .before .before .before .before .if2 .left)) (c .before .before .before .before .before .before .before .before .before .before .before .before .pre .1 .1 .0))
+  read-product-after-requires c κs = given-hopped _ (left-given (shares-else (c .before .before .before .before .btree-split-index .ensures) (c .before .before .before .before .before .before .before .before .if1 .left) (c .before .before .before .before .before .before .before .if2 .left)) (c .before .before .before .before .before .before .before .before .before .before .before .before .pre .1 .1 .0))
 
   read-product-read-product-requires-2 : read-product-lts.Need-read-product-requires-2 read-product-calls read-product-at read-product.Post
   read-product-read-product-requires-2 c κs =
       let g = c .before .before .before .before .before .before .before .before .before .before .before .before .before .pre in
-      let l = shares (c .before .before .before .before .before .btree-split-index .ensures) (c .before .before .before .before .before .before .before .before .before .if1 .left) (c .before .before .before .before .before .before .before .before .if2 .left) in
+      let l = shares-else (c .before .before .before .before .before .btree-split-index .ensures) (c .before .before .before .before .before .before .before .before .before .if1 .left) (c .before .before .before .before .before .before .before .before .if2 .left) in
       let m = l .some in
       let o = l .less in
       (omega arith, (omega arith, (right-given l (g .1 .1 .0) (c .after .ensures), g .1 .1 .1)))
@@ -205,22 +207,22 @@ module _ (t : ℕ) where
   read-sum-read-sum-requires : read-sum-lts.Need-read-sum-requires read-sum-calls read-sum-at read-sum.Post
   read-sum-read-sum-requires c κs =
       let g = c .before .before .before .before .before .before .before .pre in
-      let l = shares (c .before .before .btree-split-index .ensures) (λ e. let h = c .before .before .before .before .before .before .before .pre .1 .0 .0 in omega arith) (c .before .before .before .if1 .left) in
+      let l = shares-else (c .before .before .btree-split-index .ensures) (λ e. let h = c .before .before .before .before .before .before .before .pre .1 .0 .0 in omega arith) (c .before .before .before .if1 .left) in
       let m = l .some in
       let o = l .less in
       let i = g .1 .0 .1 in
       (omega arith, ((omega arith, omega arith), (left-given l (g .1 .1 .0), g .1 .1 .1)))
 
   read-sum-sub-others : read-sum-lts.Need-sub-others read-sum-calls read-sum-at read-sum.Post
-  read-sum-sub-others c = let l = shares (c .before .before .before .btree-split-index .ensures) (λ e. let h = c .before .before .before .before .before .before .before .before .pre .1 .0 .0 in omega arith) (c .before .before .before .before .if1 .left) in let m = l .less in omega arith
+  read-sum-sub-others c = let l = shares-else (c .before .before .before .btree-split-index .ensures) (λ e. let h = c .before .before .before .before .before .before .before .before .pre .1 .0 .0 in omega arith) (c .before .before .before .before .if1 .left) in let m = l .less in omega arith
 
   read-sum-hop-requires : read-sum-lts.Need-hop-requires read-sum-calls read-sum-at read-sum.Post
-  read-sum-hop-requires c κs = given-hopped Types (left-given (shares (c .before .before .before .btree-split-index .ensures) (λ e. let h = c .before .before .before .before .before .before .before .before .pre .1 .0 .0 in omega arith) (c .before .before .before .before .if1 .left)) (c .before .before .before .before .before .before .before .before .pre .1 .1 .0))
+  read-sum-hop-requires c κs = given-hopped Types (left-given (shares-else (c .before .before .before .btree-split-index .ensures) (λ e. let h = c .before .before .before .before .before .before .before .before .pre .1 .0 .0 in omega arith) (c .before .before .before .before .if1 .left)) (c .before .before .before .before .before .before .before .before .pre .1 .1 .0))
 
   read-sum-read-sum-requires-2 : read-sum-lts.Need-read-sum-requires-2 read-sum-calls read-sum-at read-sum.Post
   read-sum-read-sum-requires-2 c κs =
       let g = c .before .before .before .before .before .before .before .before .before .pre in
-      let l = shares (c .before .before .before .before .btree-split-index .ensures) (λ e. let h = c .before .before .before .before .before .before .before .before .before .pre .1 .0 .0 in omega arith) (c .before .before .before .before .before .if1 .left) in
+      let l = shares-else (c .before .before .before .before .btree-split-index .ensures) (λ e. let h = c .before .before .before .before .before .before .before .before .before .pre .1 .0 .0 in omega arith) (c .before .before .before .before .before .if1 .left) in
       let m = l .some in
       let o = l .less in
       let i = g .1 .0 .1 in

@@ -13,7 +13,8 @@ use Rattle.rebuild.specs.declared.Read.the-variants.{Of, Not}
 use Rattle.rebuild.specs.declared.Records.the-variants as records
 use Rattle.rebuild.specs.Reads.{Reader, records-in, value-records}
 use Rattle.rebuild.specs.Forms.{Limits, reading, standing}
-use Rattle.rebuild.specs.Laws.Forms.{stands, standing-is}
+use Rattle.structural.specs.Laws.Forms.{stands}
+use Rattle.rebuild.specs.Laws.Forms.{standing-is}
 use Rattle.rebuild.proofs.value_records.Statement.{statement}
 use Rattle.rebuild.proofs.value_records.Tie as tie
 

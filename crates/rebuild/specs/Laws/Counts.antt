@@ -1,7 +1,7 @@
 -- Laws of counting a shape's parts: a balanced tree, a block and a list are counted by the parts that the model takes out of them.
 use mathlib.Core.Path.{_≡_, refl, sym, ap, ap₂, _∙_}
 use mathlib.Core.List.{List, [], _∷_, _++_}
-use mathlib.Core.Option.{Option, none, some, Option·none-ne-some, Option·some-injective}
+use mathlib.Core.Option.{Option, none, some}
 use Prim.Native.Nat.{ℕ, zero, suc, _+_, _<_, _^_}
 use native.Mathlib.Nat.{add-zero}
 use native.Mathlib.Omega.{arith}
@@ -12,8 +12,7 @@ use Rattle.model.specs.Balanced.{BTree, leaf, fork, leaves, btree, grow, fold}
 use Rattle.model.specs.Structural.{SValue, unit, left, right, pair}
 use Rattle.model.specs.Reconstruct.{unfold-tree, as-tuple, as-block, combine, as-enum-leaf}
 use Rattle.model.specs.Laws.Balanced.{btree-leaves, size-left, size-right}
-use Rattle.model.specs.Laws.Options.{mapO-some}
-use Rattle.model.specs.Laws.Valid.{length-unfold-tree, length-as-tuple}
+use Rattle.model.specs.Laws.Valid.{length-unfold-tree, leaf-below, length-as-tuple}
 use Rattle.rebuild.specs.Laws.Places.{Counter, plusO, unit-count, sum-count, pair-count, any-count, no-count}
 
 -- each shape by its own counter
@@ -126,14 +125,6 @@ list-total (suc e) c (pair x y) =
 
 abbrev nth : List Counter → ℕ × SValue → Option ℕ
 nth cs y = getD cs (y .0) no-count (y .1)
-
-leaf-below : (t : BTree) (x : SValue) (y : ℕ × SValue) → as-enum-leaf t x ≡ some y → y .0 < leaves t
-unfolding as-enum-leaf
-leaf-below leaf x y h = omega (arith, ap (λ (z : ℕ × SValue). z .0) (Option·some-injective (0, x) y h))
-leaf-below (fork l r) unit y h = absurd (Option·none-ne-some y h)
-leaf-below (fork l r) (left x) y h = omega (arith, leaf-below l x y h)
-leaf-below (fork l r) (right x) y h = let (z, e, k) = mapO-some _ (as-enum-leaf r x) y h in omega (arith, leaf-below r x z e, ap (λ (z : ℕ × SValue). z .0) k)
-leaf-below (fork l r) (pair x z) y h = absurd (Option·none-ne-some y h)
 
 left-leaf : (k : ℕ) (cs : List Counter) (o : Option (ℕ × SValue)) → ((y : ℕ × SValue) → o ≡ some y → y .0 < k) → bindO o (nth (take k cs)) ≡ bindO o (nth cs)
 left-leaf k cs none h = refl

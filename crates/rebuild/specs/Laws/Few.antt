@@ -60,11 +60,11 @@ few-read : (sh : List ℕ) (d p : ℕ) (x : Read) → Limits sh d → (r : Reade
 few-read sh d p x l r h e = few-fits (length sh) d p x (l .short) (l .low) (subst (λ y. Fits (length sh) (suc d) p y) (sym e) (h .fits p))
 
 -- numbers that tell answers apart
-abbrev count-in : Records → ℕ
+abbrev pub count-in : Records → ℕ
 count-in (records.Of n) = n
 count-in records.Not = 0
 
-abbrev some-in : Records → ℕ
+abbrev pub some-in : Records → ℕ
 some-in (records.Of n) = 1
 some-in records.Not = 0
 

@@ -2,8 +2,7 @@
 use mathlib.Core.Path.{_≡_, refl, sym, ap, ap₂, _∙_}
 use mathlib.Core.Bool.{Bool, true, false}
 use mathlib.Core.List.{List, [], _∷_}
-use Prim.Native.Nat.{ℕ, zero, suc, _+_, _-_, _≤_, _<_}
-use native.Mathlib.Numerals.{sub-one}
+use Prim.Native.Nat.{ℕ, zero, suc, _+_, _-_, _≤_}
 use native.Mathlib.Nat.{zero-add, suc-add}
 use native.Mathlib.Omega.{arith}
 use lib.ListN.{getD, take, drop, replicate}
@@ -13,18 +12,17 @@ use Rattle.model.specs.Balanced.{next-power-of-two, btree-split-index, btree, g
 use Rattle.model.specs.Balanced as powers
 use Rattle.model.specs.Laws.Balanced.{split-bounds}
 use Rattle.model.specs.Laws.Sizes.{fold-step}
-use Rattle.model.specs.Types.{Tys, size, count}
+use Rattle.model.specs.Types.{size}
 use Rattle.model.specs.Types as model
 use Rattle.types.specs.declared.Head.{Head}
 use Rattle.types.specs.declared.Head.the-variants.{Missing, Faulty, Never, Boolean, UInt, Either, Opt, Tuple, Array, Listed, Variants, Payload}
 use Rattle.types.specs.declared.Rec.the-variants.{Variant}
-use Rattle.types.specs.declared.Walk.{Walk}
 use Rattle.types.specs.Record.{headAt, callsFor, recAt}
 use Rattle.types.specs.Heads.{Fair, FairBound}
 use Rattle.types.specs.Walks.{walk}
-use Rattle.types.specs.Trees.{endOf, kids, node, payload, tree, treev}
+use Rattle.types.specs.Trees.{kids, node, payload, tree, treev}
 use Rattle.types.specs.Trees as trees
-use Rattle.types.specs.Steps.{Given, GivenRow, given-levels, given-head, given-first, given-rest, given-end, given-inside, tree-in, treev-in}
+use Rattle.types.specs.Steps.{Given, GivenRow, given-levels, given-head, given-end, given-inside, tree-in, treev-in, size-kids, count-cases}
 use Rattle.rebuild.specs.declared.Form.{Form}
 use Rattle.rebuild.specs.declared.Form.the-variants as form
 use Rattle.rebuild.specs.declared.Parts.{Parts}
@@ -32,29 +30,20 @@ use Rattle.rebuild.specs.declared.Parts.the-variants.{Bits, Copies, Type
 use Rattle.rebuild.specs.Reads.{Reader, units, sums, pairs, passes, fails, products, choices, bits, blocks, lists, one, reads, readers, cases}
 use Rattle.structural.specs.Forms.{most-parts, is-variant, Stands}
 use Rattle.told.specs.Forms.{hops}
+use Rattle.told.specs.Laws.Hops.{hops-add}
+use Rattle.told.specs.Laws.Rows.{first, rest, hopped}
 use Rattle.rebuild.specs.Forms.{form-of, skip, Hopped, GivenPart, GivenParts, reading, standing, part, row, balanced, chosen, block-of, listed}
 use Rattle.structural.specs.Laws.Bounds.{width-small}
-use Rattle.structural.specs.Laws.Forms.{walked-variant}
+use Rattle.structural.specs.Laws.Forms.{is-kind, stands}
 
 -- WHAT STANDS AT A RECORD
 
 module _ {d : ℕ} {v : Bool} {s E : List ℕ} {p : ℕ} (g : Given d v s E p) where
-  is-kind : is-variant (recAt s p) ≡ v
-  is-kind = walked-variant d v s p (g .starts .end) (g .starts .walks)
-
-  pub stands : Stands d s E p
-  stands = record { given = rw is-kind g }
-
   pub standing-is : (sh : List ℕ) → standing sh d s p ≡ reading sh d v s p
   unfolding standing
-  standing-is sh = ap (λ b. reading sh d b s p) is-kind
+  standing-is sh = ap (λ b. reading sh d b s p) (is-kind g)
 
 -- PARTS IN A ROW
-
-hops-add : (E : List ℕ) (m n p : ℕ) → hops E (m + n) p ≡ hops E n (hops E m p)
-unfolding hops
-hops-add E zero n p = ap (λ i. hops E i p) (zero-add n)
-hops-add E (suc m) n p = ap (λ i. hops E i p) (suc-add m n) ∙ hops-add E m n (getD E p 0)
 
 skip-add : (k : Parts) (E : List ℕ) (m n p : ℕ) → skip k E (m + n) p ≡ skip k E n (skip k E m p)
 skip-add Bits E m n p = refl
@@ -147,42 +136,19 @@ module _ (sh : List ℕ) (d : ℕ) (s E : List ℕ) where
 
 -- RECORDS IN A ROW
 
-module _ {d : ℕ} {v : Bool} {s E : List ℕ} where
-  first : {n p : ℕ} → GivenRow d v s E (suc n) p → Given d v s E p
-  first g = given-first (λ e. omega arith) g
-
-  further : {n p : ℕ} → GivenRow d v s E (suc n) p → GivenRow d v s E n (getD E p 0)
-  further g = rw sub-one at (given-rest (λ e. omega arith) g)
-
-  each-stands : (i n p : ℕ) → i < n → GivenRow d v s E n p → Stands d s E (hops E i p)
-  unfolding hops
-  each-stands i zero p l g = absurd (omega arith)
-  each-stands zero (suc n) p l g = stands (first g)
-  each-stands (suc i) (suc n) p l g = each-stands i n (getD E p 0) (omega arith) (further g)
-
-  types-given : {n p : ℕ} → GivenRow d v s E n p → GivenParts Types d s E n p
-  types-given {n} {p} g = record { each = λ i l. each-stands i n p l g }
+types-given : {d : ℕ} {v : Bool} {s E : List ℕ} {n p : ℕ} → GivenRow d v s E n p → GivenParts Types d s E n p
+types-given {n = n} {p = p} g = record { each = λ i l. stands (hopped i n p l g) }
 
 module _ (sh : List ℕ) (d : ℕ) (s E : List ℕ) where
   row-kids : (n p : ℕ) → GivenRow d false s E n p → row sh Types d s E n p ≡ readers sh (kids (tree d s) (walk d false s) n p)
   unfolding row kids reads hops reading
   row-kids zero p g = refl
-  row-kids (suc n) p g = ap₂ {C = List Reader} _∷_ (standing-is (first g) sh) (row-kids n (getD E p 0) (further g) ∙ ap (λ q. readers sh (kids (tree d s) (walk d false s) n q)) (given-end (first g)))
+  row-kids (suc n) p g = ap₂ {C = List Reader} _∷_ (standing-is (first g) sh) (row-kids n (getD E p 0) (rest g) ∙ ap (λ q. readers sh (kids (tree d s) (walk d false s) n q)) (given-end (first g)))
 
   row-cases : (n p : ℕ) → GivenRow d true s E (suc n) p → row sh Types d s E (suc n) p ≡ cases sh (trees.cases (treev d s) (walk d true s) n p)
   unfolding row trees.cases reads hops reading
   row-cases zero p g = ap (λ (r : Reader). r ∷ []) (standing-is (first g) sh)
-  row-cases (suc n) p g = ap₂ {C = List Reader} _∷_ (standing-is (first g) sh) (row-cases n (getD E p 0) (further g) ∙ ap (λ q. cases sh (trees.cases (treev d s) (walk d true s) n q)) (given-end (first g)))
-
-size-kids : (g : ℕ → model.Ty) (f : ℕ → Walk) (n p : ℕ) → size (kids g f n p) ≡ n
-unfolding kids
-size-kids g f zero p = refl
-size-kids g f (suc n) p = ap suc (size-kids g f n (endOf (f p)))
-
-count-cases : (g : ℕ → Tys) (f : ℕ → Walk) (n p : ℕ) → count (trees.cases g f n p) ≡ suc n
-unfolding trees.cases
-count-cases g f zero p = refl
-count-cases g f (suc n) p = ap suc (count-cases g f n (endOf (f p)))
+  row-cases (suc n) p g = ap₂ {C = List Reader} _∷_ (standing-is (first g) sh) (row-cases n (getD E p 0) (rest g) ∙ ap (λ q. cases sh (trees.cases (treev d s) (walk d true s) n q)) (given-end (first g)))
 
 -- THE KINDS OF TYPES
 
@@ -213,9 +179,6 @@ Formed sh (form.Product k n) d s E p t = ProductOf sh k n d s E p t
 Formed sh (form.Sum n) d s E p t = SumOf sh n d s E p t
 Formed sh (form.List b) d s E p t = ListOf sh b d s E p t
 Formed sh (form.Payload n) d s E p t = PayloadOf sh n d s E p t
-
-only : {d : ℕ} {v : Bool} {s E : List ℕ} {p : ℕ} → GivenRow d v s E 1 p → Given d v s E p
-only g = given-first (λ e. omega arith) g
 
 module _ (sh : List ℕ) (d : ℕ) (s E : List ℕ) (p : ℕ) where
   no-parts : GivenParts Types d s E 0 p
@@ -289,14 +252,14 @@ module _ (sh : List ℕ) {d : ℕ} {s E : List ℕ} {p : ℕ} (g : Stands d s E 
   formed (UInt w) e f = rw (type-is (UInt w) e refl) (bits-of sh (d - 1) s E (p + 1) (w .0) (width-small w f))
   formed Either e f = record { some = omega arith; few = omega arith; given = types-given (given-head Either (g .given) e refl); same = either-same e }
   formed Opt e f =
-      let b = only (given-head Opt (g .given) e refl) in
+      let b = first (given-head Opt (g .given) e refl) in
       record { fair = record { exponent = 0; admitted = refl }; given = stands b; same = type-is Opt e refl ∙ option-is sh (d - 1) s E (p + 1) _ ∙ ap (λ r. one sh (lists sh (bound-log2 2 - 1) r)) (sym (standing-is b sh)) }
   formed (Tuple n) e f = record { few = omega arith; given = types-given (given-head (Tuple n) (g .given) e refl); same = tuple-same n e }
   formed (Array n) e f =
-      let b = only (given-head (Array n) (g .given) e refl) in
+      let b = first (given-head (Array n) (g .given) e refl) in
       record { few = omega arith; given = given-copies n (stands b); same = type-is (Array n) e refl ∙ ap (λ r. one sh (products sh n (replicate n r))) (sym (standing-is b sh)) ∙ ap (λ l. one sh (products sh n l)) (sym (copies-row sh (d - 1) s E n (p + 1))) }
   formed (Listed b) e f =
-      let c = only (given-head (Listed b) (g .given) e refl) in
+      let c = first (given-head (Listed b) (g .given) e refl) in
       record { fair = f; given = stands c; same = type-is (Listed b) e refl ∙ ap (λ r. one sh (lists sh (bound-log2 (b .0) - 1) r)) (sym (standing-is c sh)) }
   formed (Variants n) e f = record { some = f .0; few = omega arith; given = types-given (given-head (Variants n) (g .given) e refl); same = enum-same n (f .0) e }
   formed (Payload n) e f = record { few = omega arith; given = types-given (given-head (Payload n) (g .given) e refl); same = payload-is n e ∙ ap (λ l. products sh n l) (sym (row-kids sh (d - 1) s E n (p + 1) (given-head (Payload n) (g .given) e refl))) }

@@ -5,7 +5,7 @@ use mathlib.Core.Bool.{Bool}
 use mathlib.Core.List.{List, [], _∷_, append-nil}
 use mathlib.Core.Logic.{inl, inr}
 use mathlib.Core.Option.{Option, none, some}
-use Prim.Native.Nat.{ℕ, zero, suc, _+_, _*_, _≤_, _^_}
+use Prim.Native.Nat.{ℕ, zero, suc, _+_, _≤_, _^_}
 use native.Mathlib.Nat.{zero-add}
 use native.Mathlib.Omega.{arith}
 use lib.ListN.{length, getD, replicate, length-append}
@@ -16,13 +16,12 @@ use Rattle.model.specs.Balanced.{btree, fold}
 use Rattle.model.specs.Structural.{SValue, unit, left, right, pair, shape-records}
 use Rattle.model.specs.Types.{Ty, Tys, Variants, never, bool, uint, either, option, tuple, array, list, enum, nil, cons, last, more, size, count}
 use Rattle.model.specs.Values.{Value}
-use Rattle.model.specs.ValueFiles.{value-bytes, encode, encodes, encode-choice, value-file}
+use Rattle.model.specs.ValueFiles.{encode, encodes, encode-choice}
 use Rattle.model.specs.ShapeFiles.{shape-of}
 use Rattle.model.specs.Reconstruct.{as-tuple, as-bit, combine, as-enum-leaf, reconstruct, reconstructs, choose}
 use Rattle.model.specs.Laws.Balanced.{btree-leaves}
-use Rattle.model.specs.Laws.Records.{length-written}
+use Rattle.model.specs.Laws.Options.{mapO-mapO, mapO-bindO, mapO-known, bindO-known}
 use Rattle.model.specs.Laws.ShapeFiles.{shape-written-read}
-use Rattle.model.specs.Laws.ValueFiles.{length-value-bytes}
 use Rattle.rebuild.specs.declared.Records.{Records}
 use Rattle.rebuild.specs.declared.Records.the-variants as records
 use Rattle.rebuild.specs.Reads.{records-in, value-records, Reader, blocks, lists, reads, readers, cases}
@@ -45,22 +44,6 @@ tuple-of ts x = mapO (λ v. length (encodes ts v)) (bindO (as-tuple (size ts) x)
 abbrev cases-of : Variants → List Counter
 cases-of (last ts) = tuple-of ts ∷ []
 cases-of (more ts vs) = tuple-of ts ∷ cases-of vs
-
-map-bind : {A B C : Type 0} (o : Option A) (f : A → Option B) (g : B → C) → mapO g (bindO o f) ≡ bindO o (λ a. mapO g (f a))
-map-bind none f g = refl
-map-bind (some a) f g = refl
-
-map-map : {A B C : Type 0} (o : Option A) (f : A → B) (g : B → C) → mapO g (mapO f o) ≡ mapO (λ a. g (f a)) o
-map-map none f g = refl
-map-map (some a) f g = refl
-
-bind-ext : {A B : Type 0} (o : Option A) (f g : A → Option B) → ((a : A) → f a ≡ g a) → bindO o f ≡ bindO o g
-bind-ext none f g h = refl
-bind-ext (some a) f g h = h a
-
-map-ext : {A B : Type 0} (o : Option A) (f g : A → B) → ((a : A) → f a ≡ g a) → mapO f o ≡ mapO g o
-map-ext none f g h = refl
-map-ext (some a) f g h = ap some (h a)
 
 length-all : (ts : Tys) → length (all-of ts) ≡ size ts
 length-all nil = refl
@@ -85,7 +68,7 @@ zip-all (cons t ts) [] = refl
 zip-all (cons t ts) (x ∷ xs) = ap (plusO (records-of t x)) (zip-all ts xs) ∙ two-of (reconstruct t x) (reconstructs ts xs) (λ v vs. (v, vs)) _ _ _ (λ v vs. length-append (encode t v) (encodes ts vs))
 
 product-all : (ts : Tys) (x : SValue) → fold pair-count any-count (btree (size ts)) (all-of ts) x ≡ tuple-of ts x
-product-all ts x = product-zip (size ts) (all-of ts) x (length-all ts) ∙ bind-ext (as-tuple (size ts) x) _ _ (zip-all ts) ∙ sym (map-bind (as-tuple (size ts) x) (λ ss. reconstructs ts ss) _)
+product-all ts x = product-zip (size ts) (all-of ts) x (length-all ts) ∙ bindO-known (as-tuple (size ts) x) _ _ (λ ss e. zip-all ts ss) ∙ sym (mapO-bindO (λ ss. reconstructs ts ss) _ (as-tuple (size ts) x))
 
 module _ {A B : Type 0} (f : SValue → Option A) (g : A → List B) where
   total-map : (xs : List SValue) → total (λ x. mapO (λ v. length (g v)) (f x)) xs ≡ mapO (λ vs. length (flatMap g vs)) (mapM f xs)
@@ -95,7 +78,7 @@ module _ {A B : Type 0} (f : SValue → Option A) (g : A → List B) where
 -- so the parts taken out of a shape are counted
 counted : {A B : Type 0} (o : Option A) (f : A → Option B) (c : A → Option ℕ) (g h : B → ℕ) → ((a : A) → c a ≡ mapO g (f a)) → ((b : B) → 1 + g b ≡ h b) → mapO (λ n. 1 + n) (bindO o c) ≡ mapO h (bindO o f)
 counted none f c g h e k = refl
-counted (some a) f c g h e k = ap (mapO (λ n. 1 + n)) (e a) ∙ map-map (f a) g _ ∙ map-ext (f a) _ h k
+counted (some a) f c g h e k = ap (mapO (λ n. 1 + n)) (e a) ∙ mapO-mapO g _ (f a) ∙ mapO-known (f a) _ h (λ b q. k b)
 
 lifted : {A B : Type 0} (o : Option A) (f : A → B) (g : A → ℕ) (h : B → ℕ) → ((a : A) → 1 + g a ≡ h (f a)) → mapO (λ n. 1 + n) (mapO g o) ≡ mapO h (mapO f o)
 lifted none f g h e = refl
@@ -143,7 +126,7 @@ uint-count : (w : ℕ) → Counts (uint w) (fold pair-count any-count (btree w) 
 unfolding reconstruct encode
 uint-count w x =
     ap (mapO (λ n. 1 + n)) (product-total w bit-count x)
-    ∙ counted (as-tuple w x) (λ ss. mapO of-bits (mapM as-bit ss)) (total bit-count) (λ n. 0) (λ n. 1) (λ ss. bits-are ss ∙ sym (map-map (mapM as-bit ss) of-bits (λ n. 0))) (λ n. refl)
+    ∙ counted (as-tuple w x) (λ ss. mapO of-bits (mapM as-bit ss)) (total bit-count) (λ n. 0) (λ n. 1) (λ ss. bits-are ss ∙ sym (mapO-mapO of-bits (λ n. 0) (mapM as-bit ss))) (λ n. refl)
 
 either-count : (a b : Ty) → Counts (either a b) (sum-count (records-of a) (records-of b))
 unfolding reconstruct encode
@@ -166,8 +149,8 @@ tuple-count : (ts : Tys) → Counts (tuple ts) (fold pair-count any-count (btree
 unfolding reconstruct encode
 tuple-count ts x =
     ap (mapO (λ n. 1 + n)) (product-all ts x)
-    ∙ map-map (bindO (as-tuple (size ts) x) (λ ss. reconstructs ts ss)) (λ v. length (encodes ts v)) (λ n. 1 + n)
-    ∙ map-ext (bindO (as-tuple (size ts) x) (λ ss. reconstructs ts ss)) _ (λ v. length (encode (tuple ts) v)) (λ v. omega arith)
+    ∙ mapO-mapO (λ v. length (encodes ts v)) (λ n. 1 + n) (bindO (as-tuple (size ts) x) (λ ss. reconstructs ts ss))
+    ∙ mapO-known (bindO (as-tuple (size ts) x) (λ ss. reconstructs ts ss)) _ (λ v. length (encode (tuple ts) v)) (λ v q. omega arith)
 
 array-count : (a : Ty) (n : ℕ) → Counts (array a n) (fold pair-count any-count (btree n) (replicate n (records-of a)))
 unfolding reconstruct encode
@@ -185,8 +168,8 @@ choose-count : (vs : Variants) (i : ℕ) (x : SValue) → getD (cases-of vs) i n
 unfolding reconstruct encode
 choose-count (last ts) zero x = refl
 choose-count (last ts) (suc i) x = refl
-choose-count (more ts vs) zero x = sym (map-map (bindO (as-tuple (size ts) x) (λ ss. reconstructs ts ss)) inl (λ c. length (encode-choice (more ts vs) c)))
-choose-count (more ts vs) (suc i) x = choose-count vs i x ∙ sym (map-map (choose vs i x) inr (λ c. length (encode-choice (more ts vs) c)))
+choose-count (more ts vs) zero x = sym (mapO-mapO inl (λ c. length (encode-choice (more ts vs) c)) (bindO (as-tuple (size ts) x) (λ ss. reconstructs ts ss)))
+choose-count (more ts vs) (suc i) x = choose-count vs i x ∙ sym (mapO-mapO inr (λ c. length (encode-choice (more ts vs) c)) (choose vs i x))
 
 count-some : (vs : Variants) → 1 ≤ count vs
 count-some (last ts) = omega arith
@@ -252,8 +235,3 @@ value-records-reconstruct t s x h = ap records-in (reads-reconstruct t s x h) �
     go : (o : Option (Value t)) → records-in (answer (length s) (mapO (λ v. length (encode t v)) o)) ≡ known t o
     go none = refl
     go (some v) = refl
-
--- a value file has 36 bytes for each record
-pub value-file-length : (t : Ty) (v : Value t) → length (value-file t v) ≡ length (encode t v) * 36
-unfolding value-file
-value-file-length t v = length-written 36 value-bytes length-value-bytes (encode t v)

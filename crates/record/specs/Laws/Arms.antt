@@ -6,8 +6,7 @@ use Rattle.num.specs.declared.Pow2Usize.{Pow2Usize}
 use Rattle.model.specs.ValueFiles.{Rec, rec}
 use Rattle.types.specs.declared.Head.{Head}
 use Rattle.types.specs.declared.Head.the-variants.{Missing, Faulty, Never, Boolean, UInt, Either, Opt, Tuple, Array, Listed, Variants, Payload}
-use Rattle.types.specs.Heads.{Fair}
-use Rattle.table.specs.Arms.{wide}
+use Rattle.types.specs.Heads.{Fair, width-range}
 use Rattle.record.specs.Marks.{mark-of, Marks, Marked}
 
 small : (h : Head) (i : ℕ) → Fair h → Marks h i → (mark-of h i .choice < 256) × (mark-of h i .n < 65536)
@@ -15,7 +14,7 @@ small Missing i f m = (omega arith, omega arith)
 small Faulty i f m = (omega arith, omega arith)
 small Never i f m = (omega arith, omega arith)
 small Boolean i f m = (m, omega arith)
-small (UInt w) i f m = (omega arith, omega (arith, wide w f .1))
+small (UInt w) i f m = (omega arith, omega (arith, width-range w f .1))
 small Either i f m = (m, omega arith)
 small Opt i f m = (m, omega arith)
 small (Tuple n) i f m = (omega arith, f)

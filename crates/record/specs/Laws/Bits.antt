@@ -9,7 +9,7 @@ use Rattle.model.specs.Types.{bool, uint}
 use Rattle.model.specs.Reconstruct.{as-tuple, as-bit, reconstruct}
 use Rattle.model.specs.ValueFiles.{rec, bit-number, encode}
 use Rattle.record.specs.Trees.{bit-row}
-use Rattle.record.specs.Laws.Maybe.{mapO-mapO, mapO-bindO}
+use Rattle.model.specs.Laws.Options.{mapO-mapO, mapO-bindO}
 use Rattle.record.specs.Laws.Products.{records-of}
 
 pub integer-bits : (w : ℕ) (x : SValue) → records-of (uint w) x ≡ mapO (λ bs. rec 2 0 w (of-bits bs) ∷ []) (bit-row w x)

@@ -22,7 +22,7 @@ use Rattle.types.specs.declared.Rec as types
 use Rattle.types.specs.declared.Walk.{Walk}
 use Rattle.types.specs.declared.Walk.the-variants.{End, Bad}
 use Rattle.types.specs.Record.{headAt, callsFor, recAt}
-use Rattle.types.specs.Heads.{Fair, FairBound}
+use Rattle.types.specs.Heads.{Fair, FairBound, width-range}
 use Rattle.types.specs.Walks.{opens, walk}
 use Rattle.types.specs.Trees.{kids, node, payload, tree, treev}
 use Rattle.types.specs.Unique.{bad-end}
@@ -30,7 +30,6 @@ use Rattle.types.specs.Steps.{given-levels, given-head, tree-in, treev-in}
 use Rattle.structural.specs.Forms.{is-variant, Stands}
 use Rattle.structural.specs.Laws.Forms.{stands}
 use Rattle.structural.specs.Laws.Bounds.{bound-small}
-use Rattle.table.specs.Arms.{wide}
 use Rattle.told.specs.declared.Parts.{Parts}
 use Rattle.told.specs.declared.Parts.the-variants.{Types}
 use Rattle.told.specs.Forms.{GivenParts}
@@ -128,7 +127,7 @@ formed Missing d s E p g e f = absurd (nothing-given d s E p g Gone NotOneType (
 formed Faulty d s E p g e f = absurd (nothing-given d s E p g Wrong BadRecord (ap callsFor e) (λ v k. refl))
 formed Never d s E p g e f = record { same = type-is d s E p g Never e refl }
 formed Boolean d s E p g e f = record { same = λ x. type-is d s E p g Boolean e refl x ∙ bool-bit x }
-formed (UInt w) d s E p g e f = let (l, m) = wide w f in record { some-bits = l; few = m; same = λ x. type-is d s E p g (UInt w) e refl x ∙ integer-bits (w .0) x }
+formed (UInt w) d s E p g e f = let (l, m) = width-range w f in record { some-bits = l; few = m; same = λ x. type-is d s E p g (UInt w) e refl x ∙ integer-bits (w .0) x }
 formed Either d s E p g e f =
     let r = given-head Either (g .given) e refl in
     record {

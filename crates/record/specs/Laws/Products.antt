@@ -14,17 +14,17 @@ use Rattle.model.specs.Types.{Ty, Tys, option, tuple, array, list, size}
 use Rattle.model.specs.Values.{Value}
 use Rattle.model.specs.Reconstruct.{unfold-tree, as-tuple, as-option, as-elements, combine, optional, reconstruct, reconstructs}
 use Rattle.model.specs.ValueFiles.{Rec, rec, encode, encodes}
+use Rattle.model.specs.Laws.Options.{mapO-mapO, mapO-bindO, mapO-known, bindO-known}
 use Rattle.model.specs.Laws.Valid.{length-as-tuple, length-mapM}
 use Rattle.types.specs.Walks.{walk}
 use Rattle.types.specs.Trees.{endOf, kids, tree}
-use Rattle.types.specs.Steps.{Given, GivenRow, given-end}
+use Rattle.types.specs.Steps.{Given, GivenRow, given-end, size-kids}
 use Rattle.structural.specs.Laws.Forms.{is-kind, ending-is}
-use Rattle.value.specs.Steps.{size-kids}
 use Rattle.told.specs.declared.Parts.the-variants.{Copies, Types}
 use Rattle.told.specs.Forms.{after}
 use Rattle.told.specs.Laws.Rows.{first, rest}
 use Rattle.record.specs.Trees.{value-in, part, row, product, numbered, elements}
-use Rattle.record.specs.Laws.Maybe.{mapO-mapO, mapO-bindO, mapO-known, bindO-known, joined}
+use Rattle.record.specs.Laws.Maybe.{joined}
 
 -- the records of a tree as a value of the type, and as values of the types in a tuple or a Variant
 abbrev pub records-of : (t : Ty) → SValue → Option (List Rec)

@@ -3,45 +3,34 @@ use mathlib.Core.Path.{_≡_, refl, sym, ap, _∙_}
 use mathlib.Core.Bool.{true, false}
 use mathlib.Core.List.{List, _∷_}
 use mathlib.Core.Logic.{inl, inr}
-use mathlib.Core.Option.{some, Option·none-ne-some, Option·some-injective}
+use mathlib.Core.Option.{some}
 use Prim.Native.Nat.{ℕ, zero, suc, _-_, _≤_, _<_}
 use native.Mathlib.Omega.{arith}
 use lib.ListN.{length}
 use Rattle.num.specs.declared.NonZeroPow2Usize.{NonZeroPow2Usize}
 use Rattle.num.specs.Powers.{bound-log2}
 use Rattle.model.specs.Options.{mapO, bindO}
-use Rattle.model.specs.Balanced.{BTree, leaf, fork, leaves, next-power-of-two, btree-split-index, btree, grow}
+use Rattle.model.specs.Balanced.{next-power-of-two, btree-split-index, btree, grow}
 use Rattle.model.specs.Balanced as powers
 use Rattle.model.specs.Structural.{SValue, unit, left, right, pair}
 use Rattle.model.specs.Types.{Ty, either, enum, more, size, count}
 use Rattle.model.specs.Reconstruct.{as-tuple, combine, as-enum-leaf, reconstruct, reconstructs, choose}
 use Rattle.model.specs.ValueFiles.{Rec, rec, encode, encode-choice}
 use Rattle.model.specs.Laws.Balanced.{btree-leaves}
-use Rattle.model.specs.Laws.Options.{bindO-some, mapO-some}
-use Rattle.model.specs.Laws.Valid.{length-combine, choose-index}
+use Rattle.model.specs.Laws.Options.{bindO-some, mapO-some, mapO-mapO, mapO-bindO, mapO-known, bindO-known}
+use Rattle.model.specs.Laws.Valid.{leaf-below, length-combine, choose-index}
 use Rattle.types.specs.Heads.{FairBound}
 use Rattle.types.specs.Walks.{walk}
 use Rattle.types.specs.Trees.{endOf, cases, tree, treev}
-use Rattle.types.specs.Steps.{GivenRow, given-end}
+use Rattle.types.specs.Steps.{GivenRow, given-end, count-cases}
 use Rattle.structural.specs.Laws.Bounds.{power-of}
-use Rattle.value.specs.Follow.{count-cases}
 use Rattle.told.specs.declared.Parts.the-variants.{Copies}
 use Rattle.told.specs.Forms.{hops}
 use Rattle.told.specs.Laws.Rows.{first, rest}
 use Rattle.record.specs.Trees.{value-in, part, row, numbered, sum, elements}
-use Rattle.record.specs.Laws.Maybe.{mapO-mapO, mapO-bindO, mapO-known, bindO-known}
 use Rattle.record.specs.Laws.Products.{records-of, part-is}
 
--- a leaf is one of the tree's
-leaf-below : (t : BTree) (x : SValue) (y : ℕ × SValue) → as-enum-leaf t x ≡ some y → y .0 < leaves t
-unfolding as-enum-leaf
-leaf-below leaf x y h = omega (arith, ap (λ (z : ℕ × SValue). z .0) (Option·some-injective (0, x) y h))
-leaf-below (fork l r) unit y h = absurd (Option·none-ne-some y h)
-leaf-below (fork l r) (left x) y h = omega (arith, leaf-below l x y h)
-leaf-below (fork l r) (right x) y h = let (z, e, k) = mapO-some _ (as-enum-leaf r x) y h in omega (arith, leaf-below r x z e, ap (λ (z : ℕ × SValue). z .0) k)
-leaf-below (fork l r) (pair x z) y h = absurd (Option·none-ne-some y h)
-
--- and one of n choices
+-- a choice is one of n
 choice-below : (n : ℕ) (x : SValue) (y : ℕ × SValue) → 1 ≤ n → as-enum-leaf (btree n) x ≡ some y → y .0 < n
 choice-below n x y h e = omega (arith, leaf-below (btree n) x y e, btree-leaves n h)
 

@@ -6,7 +6,8 @@ use native.Mathlib.Omega.{arith}
 use borrow.Author.Needs.{needs}
 use borrow.Fn.Kinds.{In}
 use borrow.Fn.PlainCycle.{Measures, is, falls, and}
-use Rattle.restore.proofs.Steps.{Shares, shares, bit-inside, bit-fits, bit-placed, bits-fit, left-bits, right-bits, bits-placed}
+use Rattle.model.specs.Laws.Balanced.{Shares, shares}
+use Rattle.restore.proofs.Steps.{bit-inside, bit-fits, bit-placed, bits-fit, left-bits, right-bits, bits-placed}
 use Rattle.restore.proofs.write_bits.Reads as write-bits
 use Rattle.restore.proofs.write_bits.Kinds as write-bits-kinds
 use Rattle.restore.proofs.+write_bits.Lts-write_bits as write-bits-lts

@@ -10,15 +10,18 @@ use native.Mathlib.Omega.{arith}
 use borrow.Author.Needs.{needs}
 use borrow.Fn.Kinds.{In}
 use borrow.Fn.PlainCycle.{Measures, is, falls, and}
+use Rattle.model.specs.Laws.Balanced.{Shares, shares}
 use Rattle.structural.specs.Laws.Bounds.{bound-small}
+use Rattle.structural.specs.Laws.Forms.{level-some, next-fits, stands-inside}
 use Rattle.told.specs.Laws.Rows.{given-copies}
+use Rattle.told.specs.Laws.Trees.{one-given, left-given, right-given, skip-none, skip-sides}
 use Rattle.record.specs.Marks.{mark-of}
 use Rattle.record.specs.Trees.{product, sum, elements}
 use Rattle.record.specs.Laws.Formed.{BitRead, IntegerRead, ProductRead, SumRead, ListRead, PayloadRead, as-nothing, as-boolean, as-integer, as-product, as-sum, as-list, as-payload}
 use Rattle.restore.specs.Forms.{made-at, standing}
 use Rattle.restore.specs.Laws.Lists.{Halves}
 use Rattle.record.specs.Laws.Writing.{lent-length}
-use Rattle.restore.proofs.Steps.{level-some, next-fits, stands-inside, Shares, shares, skip-none, skip-copy, skip-type, skip-both, one-given, left-given, right-given, given-hops, hopped-given, none-found, none-placed, one-ready, one-placed, parts-fit, left-ready, left-fits, right-ready, sides-placed, sides-small, ready-as, placed-as, placed-length, numbered-length, only-ready, only-placed, choice-inside, choice-fits, first-ready, first-placed, others-ready, others-placed, block-starts, block-fits, empty-fits, empty-placed, full-ready, full-placed, two-ready, two-placed, halves, list-fits, block-ready, block-ends, list-ready, list-placed, list-small, count-small, Under, under, under-start, under-ready, under-back, under-small, under-placed, UnderNumbered, under-numbered, numbered-start, numbered-ready, numbered-back, numbered-small, numbered-placed, nothing-there, payload-is, choice-below, count-below, side-some, side-few, side-inside, bit-room, side-fits, bit-marks, bit-done, integer-found, integer-room, integer-marks, integer-done}
+use Rattle.restore.proofs.Steps.{skip-copy, skip-type, given-hops, hopped-given, none-found, none-placed, one-ready, one-placed, parts-fit, left-ready, left-fits, right-ready, sides-placed, sides-small, ready-as, placed-as, placed-length, numbered-length, only-ready, only-placed, choice-inside, choice-fits, first-ready, first-placed, others-ready, others-placed, block-starts, block-fits, empty-fits, empty-placed, full-ready, full-placed, two-ready, two-placed, halves, list-fits, block-ready, block-ends, list-ready, list-placed, list-small, count-small, Under, under, under-start, under-ready, under-back, under-small, under-placed, UnderNumbered, under-numbered, numbered-start, numbered-ready, numbered-back, numbered-small, numbered-placed, nothing-there, payload-is, choice-below, count-below, side-some, side-few, side-inside, bit-room, side-fits, bit-marks, bit-done, integer-found, integer-room, integer-marks, integer-done}
 use Rattle.restore.proofs.write_block.Reads as write-block
 use Rattle.restore.proofs.write_block.Kinds as write-block-kinds
 use Rattle.restore.proofs.+write_block+write_list+write_product+write_record+write_sum.Lts-write_block as write-block-lts
@@ -188,7 +191,7 @@ module _ (t : ℕ) where
   write-product-add-write-product c = parts-fit _ _ _ _ _ _ _ _ (product-start (c) .pre .1 .1 .1) (parts (c)) (search needs)
 
   write-product-write-product-requires : write-product-lts.Need-write-product-requires write-product-calls write-product-at write-product.Post
-  write-product-write-product-requires c κs = let p = c .before .before .before .before .before .before .before .before .pre in let s = parts (c .before) in let l = s .less in (omega arith, (omega arith, (left-given (p .1 .1 .0) s, left-ready _ _ _ _ _ _ _ _ (product-start (c .before) .pre .1 .1 .1) (parts (c .before)))))
+  write-product-write-product-requires c κs = let p = c .before .before .before .before .before .before .before .before .pre in let s = parts (c .before) in let l = s .less in (omega arith, (omega arith, (left-given s (p .1 .1 .0), left-ready _ _ _ _ _ _ _ _ (product-start (c .before) .pre .1 .1 .1) (parts (c .before)))))
 
   write-product-sub-write-product : write-product-lts.Need-sub-write-product write-product-calls write-product-at write-product.Post
   write-product-sub-write-product c = left-fits _ _ _ _ _ _ _ _ (product-start (c .before .before .before .before) .pre .1 .1 .1) (parts (c .before .before .before .before)) (c .before .before .write-product .ensures .1)
@@ -203,7 +206,7 @@ module _ (t : ℕ) where
       let v = c .before .before .before .write-product .ensures in
       let l = s .less in
       let m = s .some in
-      (omega arith, (omega arith, (right-given (p .1 .1 .0) s (v .0), right-ready _ _ _ _ _ _ _ _ (product-start (c .before .before .before .before .before) .pre .1 .1 .1) (parts (c .before .before .before .before .before)) (v .1) (v .0))))
+      (omega arith, (omega arith, (right-given s (p .1 .1 .0) (v .0), right-ready _ _ _ _ _ _ _ _ (product-start (c .before .before .before .before .before) .pre .1 .1 .1) (parts (c .before .before .before .before .before)) (v .1) (v .0))))
 
   write-product-add-t24 : write-product-lts.Need-add-t24 write-product-calls write-product-at write-product.Post
   write-product-add-t24 c = let g = c .before .before .before .before .before .before .before .before .before .before .before .before .before .before .before .before .good in let v = c .before .before .before .before .before .before .before .write-product .ensures in omega (arith, sides-small _ _ _ _ _ _ _ _ (product-start (c .before .before .before .before .before .before .before .before .before) .pre .1 .1 .1) (parts (c .before .before .before .before .before .before .before .before .before)) (v .1) (v .0) (c .before .before .before .write-product2 .ensures .1))
@@ -215,7 +218,7 @@ module _ (t : ℕ) where
   write-product-returns-4 c =
       let v = c .before .before .before .before .before .before .before .write-product .ensures in
       let u = c .before .before .before .write-product2 .ensures in
-      (skip-both _ _ _ (parts (c .before .before .before .before .before .before .before .before .before)) _ (v .0) (u .0), sides-placed _ _ _ _ _ _ _ _ (product-start (c .before .before .before .before .before .before .before .before .before) .pre .1 .1 .1) (parts (c .before .before .before .before .before .before .before .before .before)) (v .1) (v .0) (u .1))
+      (skip-sides (parts (c .before .before .before .before .before .before .before .before .before)) _ _ _ _ (v .0) (u .0), sides-placed _ _ _ _ _ _ _ _ (product-start (c .before .before .before .before .before .before .before .before .before) .pre .1 .1 .1) (parts (c .before .before .before .before .before .before .before .before .before)) (v .1) (v .0) (u .1))
 
   abbrev record-start : write-record-lts.After-form-of write-record-calls write-record-at write-record.Post → write-record-lts.Start write-record-calls write-record-at write-record.Post
   record-start c = c .before .before .before .before .before .before
@@ -423,7 +426,7 @@ module _ (t : ℕ) where
       let s = choices (c .before .before .before) in
       let l = s .less in
       let i = p .1 .0 .1 in
-      (omega arith, ((s .some, omega arith), (left-given (p .1 .1 .0) s, first-ready _ _ _ _ _ _ _ _ (sum-start (c .before .before .before) .pre .1 .1 .1) (choices (c .before .before .before)) (c .before .if2 .taken))))
+      (omega arith, ((s .some, omega arith), (left-given s (p .1 .1 .0), first-ready _ _ _ _ _ _ _ _ (sum-start (c .before .before .before) .pre .1 .1 .1) (choices (c .before .before .before)) (c .before .if2 .taken))))
 
   write-sum-same-length-2 : write-sum-lts.Need-same-length-2 write-sum-calls write-sum-at write-sum.Post
   write-sum-same-length-2 c = numbered-length (first-ready _ _ _ _ _ _ _ _ (sum-start (c .before .before .before .before .before .before) .pre .1 .1 .1) (choices (c .before .before .before .before .before .before)) (c .before .before .before .before .if2 .taken)) (c .before .before .write-sum .ensures)

@@ -19,7 +19,7 @@ use Rattle.model.specs.Laws.Valid.{length-as-tuple}
 use Rattle.types.specs.Heads.{FairBound}
 use Rattle.structural.specs.Laws.Bounds.{Power, power-of}
 use Rattle.told.specs.declared.Parts.the-variants.{Copies}
-use Rattle.told.specs.Laws.Trees.{skip-copies}
+use Rattle.told.specs.Laws.Rows.{skip-copies}
 use Rattle.record.specs.Trees.{row, product, numbered, blocked, elements}
 use Rattle.restore.specs.Forms.{tree-at, made-at}
 use Rattle.restore.specs.Laws.Made.{made-same, made-of, numbered-some}

@@ -5,10 +5,9 @@ use mathlib.Core.Option.{Option, none, some, Option·none-ne-some, Option·some-
 use Prim.Native.Nat.{ℕ}
 use Rattle.model.specs.Options.{mapO, bindO}
 use Rattle.model.specs.Structural.{SValue}
-use Rattle.model.specs.Laws.Options.{bindO-some, mapO-some}
+use Rattle.model.specs.Laws.Options.{bindO-some, mapO-some, bindO-known}
 use Rattle.model.specs.ValueFiles.{Rec}
 use Rattle.record.specs.Trees.{numbered}
-use Rattle.record.specs.Laws.Maybe.{bindO-known}
 use Rattle.restore.specs.Forms.{Given, tree-at, made-at}
 
 -- what is made of what is made

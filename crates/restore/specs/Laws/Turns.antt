@@ -2,8 +2,7 @@
 use mathlib.Core.Path.{_≡_, sym, ap, _∙_}
 use mathlib.Core.List.{List}
 use mathlib.Core.Option.{some, Option·none-ne-some}
-use Prim.Native.Nat.{ℕ, zero, suc, _+_, _-_, _≤_, _<_}
-use native.Mathlib.Nat.{zero-add, suc-add}
+use Prim.Native.Nat.{ℕ, _+_, _-_, _≤_, _<_}
 use native.Mathlib.Omega.{arith}
 use lib.ListN.{length, getD}
 use Rattle.model.specs.Options.{bindO}
@@ -14,15 +13,11 @@ use Rattle.model.specs.Reconstruct.{as-enum-leaf}
 use Rattle.model.specs.Laws.Options.{bindO-some, mapO-some}
 use Rattle.model.specs.Laws.Balanced.{split-bounds, btree-fork, btree-leaves}
 use Rattle.told.specs.Forms.{hops}
+use Rattle.told.specs.Laws.Hops.{hops-add}
 use Rattle.record.specs.Trees.{part, sum, numbered}
 use Rattle.restore.specs.Forms.{tree-at, made-at, standing}
 use Rattle.restore.specs.Laws.Made.{made-of, numbered-some}
 use Rattle.restore.specs.Laws.Places.{left-at, right-at, made-there}
-
-hops-add : (E : List ℕ) (m n p : ℕ) → hops E (m + n) p ≡ hops E n (hops E m p)
-unfolding hops
-hops-add E zero n p = ap (λ i. hops E i p) (zero-add n)
-hops-add E (suc m) n p = ap (λ i. hops E i p) (suc-add m n) ∙ hops-add E m n (getD E p 0)
 
 module _ (sh : List ℕ) (d : ℕ) (s E : List ℕ) where
   -- one choice is the first

@@ -15,14 +15,17 @@ use borrow.Fn.PlainCycle.{Measures, is, falls, and}
 use lib.ListN.{length-set}
 use Rattle.num.specs.declared.NonZeroPow2Usize.{NonZeroPow2Usize}
 use Rattle.model.specs.Structural.{unit}
+use Rattle.model.specs.Laws.Balanced.{Shares, shares}
 use Rattle.structural.specs.Laws.Bounds.{bound-small}
+use Rattle.structural.specs.Laws.Forms.{level-some, next-fits, stands-inside}
 use Rattle.told.specs.declared.Parts.the-variants.{Copies}
 use Rattle.told.specs.Forms.{Told, skip, balanced, chosen, listed}
-use Rattle.told.specs.Laws.Trees.{given-copies}
+use Rattle.told.specs.Laws.Rows.{given-copies}
+use Rattle.told.specs.Laws.Trees.{one-given, left-given, right-given, skip-none, skip-sides}
 use Rattle.told.specs.Laws.Lists.{block-told, block-share, Halved, listed-two, listed-more}
 use Rattle.told.specs.Laws.Formed.{BitsTold, ProductTold, SumTold, ListTold, PayloadTold, readable, as-bits, as-product, as-sum, as-list, as-payload}
 use Rattle.shape.specs.Laws.Writing.{ready-as, ready-room, placed-as, placed-length, Stem, stem-start, stem-ready, stem-small, stem-done, Pair, pair-of, pair-start, left-ready, pair-small, pair-fits, right-ready, pair-done, pair-total}
-use Rattle.shape.proofs.Steps.{ready-some, level-some, next-fits, inside, record-fits, none-is, one-is, tree-pair, skip-none, skip-one, one-given, Shares, shares, left-given, right-given, skip-sides, only-is, sum-left, sum-right, block-stem, empty-room, empty-placed}
+use Rattle.shape.proofs.Steps.{ready-some, record-fits, none-is, one-is, tree-pair, skip-one, only-is, sum-left, sum-right, block-stem, empty-room, empty-placed}
 use Rattle.shape.proofs.write_block.Reads as write-block
 use Rattle.shape.proofs.write_block.Kinds as write-block-kinds
 use Rattle.shape.proofs.+write_block+write_list+write_record+write_sum+write_tree.Lts-write_block as write-block-lts
@@ -437,7 +440,7 @@ module _ (t : ℕ) where
       (omega arith, (one-given (g .1 .0) z, ready-as (one-is _ _ _ _ _ _ _ z) (g .1 .1)))
 
   write-tree-after-part-requires : write-tree-lts.Need-after-part-requires write-tree-calls write-tree-at write-tree.Post
-  write-tree-after-part-requires c κs = inside (one-given (c .before .before .before .before .before .before .before .before .before .before .pre .1 .1 .0) (c .before .before .before .before .if2 .taken))
+  write-tree-after-part-requires c κs = stands-inside (one-given (c .before .before .before .before .before .before .before .before .before .before .pre .1 .1 .0) (c .before .before .before .before .if2 .taken))
 
   write-tree-returns-2 : write-tree-lts.Need-returns-2 write-tree-calls write-tree-at write-tree.Post
   write-tree-returns-2 c =

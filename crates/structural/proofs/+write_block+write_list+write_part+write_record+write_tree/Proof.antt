@@ -13,13 +13,14 @@ use borrow.Author.Needs.{needs}
 use borrow.Fn.Kinds.{In}
 use borrow.Fn.PlainCycle.{Measures, is, falls, and}
 use Rattle.model.specs.Structural.{type-records}
+use Rattle.model.specs.Laws.Balanced.{Shares, shares-else}
 use Rattle.structural.specs.Forms.{all-same, standing, skip, balanced, block-of, listed}
 use Rattle.structural.specs.Laws.Writing.{wrote-length, wrote-as, Fork, fork-start, left-room, left-small, left-fits, right-room, fork-done, fork-small, again-room, again-done, again-small}
 use Rattle.structural.specs.Laws.Bounds.{bound-small}
 use Rattle.structural.specs.Laws.Trees.{room-some, tree-fork, tree-twice, given-copies}
 use Rattle.structural.specs.Laws.Lists.{list-two, Halved, list-more, list-fork}
-use Rattle.structural.specs.Laws.Forms.{TreeOf, ListOf}
-use Rattle.structural.proofs.Steps.{level-some, next-fits, as-tree, as-list, bit-room, bit-placed, copy-placed, part-given, part-room, part-inside, part-placed, block-second, block-start, block-room, block-done, block-length, block-fits, none-room, none-placed, one-room, one-placed, one-given, Shares, shares, left-given, right-given, tree-placed, twice-placed}
+use Rattle.structural.specs.Laws.Forms.{level-some, next-fits, TreeOf, ListOf}
+use Rattle.structural.proofs.Steps.{as-tree, as-list, bit-room, bit-placed, copy-placed, part-given, part-room, part-inside, part-placed, block-second, block-start, block-room, block-done, block-length, block-fits, none-room, none-placed, one-room, one-placed, one-given, left-given, right-given, tree-placed, twice-placed}
 use Rattle.num.specs.declared.NonZeroPow2Usize.{NonZeroPow2Usize}
 use Rattle.structural.proofs.write_block.Reads as write-block
 use Rattle.structural.proofs.write_block.Kinds as write-block-kinds
@@ -208,7 +209,7 @@ module _ (t : ℕ) where
   tree-records s n p = type-records (balanced (s .args .parts) (s .args .level) (s .args .ty .now) n p)
 
   split : (c : write-tree-lts.After-btree-split-index write-tree-calls write-tree-at write-tree.Post) → Shares (tree-start c .args .n) (c .btree-split-index .result)
-  split c = shares (c .btree-split-index .ensures) (c .before .before .before .if1 .left) (c .before .before .if2 .left)
+  split c = shares-else (c .btree-split-index .ensures) (c .before .before .before .if1 .left) (c .before .before .if2 .left)
 
   -- what is written of the tree, with the right side's parts from q on
   sides : (c : write-tree-lts.After-btree-split-index write-tree-calls write-tree-at write-tree.Post) (q : ℕ) → q ≡ skip (tree-start c .args .parts) (tree-start c .args .level) (tree-start c .args .ty .now) (c .btree-split-index .result) (tree-start c .args .at)

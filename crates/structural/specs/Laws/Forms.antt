@@ -2,9 +2,11 @@
 use mathlib.Core.Path.{_≡_, refl, sym, ap, ap₂, _∙_}
 use mathlib.Core.Bool.{Bool, true, false}
 use mathlib.Core.List.{List, [], _∷_}
-use Prim.Native.Nat.{ℕ, zero, suc, _+_, _-_, _≤_, _<_}
+use Prim.Native.Nat.{ℕ, zero, suc, _+_, _-_, _^_, _≤_, _<_}
 use native.Mathlib.Numerals.{sub-one}
 use native.Mathlib.Omega.{arith}
+use mir.Syntax.{w64}
+use mir.Val.{Fits}
 use lib.ListN.{length, getD, replicate, length-replicate}
 use Rattle.num.specs.declared.NonZeroPow2Usize.{NonZeroPow2Usize}
 use Rattle.num.specs.Powers.{bound, bound-log2}
@@ -26,8 +28,8 @@ use Rattle.types.specs.Heads.{Fair, FairBound}
 use Rattle.types.specs.Walks.{opens, walk}
 use Rattle.types.specs.Trees.{endOf, kids, cases, node, payload, tree, treev}
 use Rattle.types.specs.Unique.{bad-end}
-use Rattle.types.specs.Steps.{Given, GivenRow, given-levels, given-head, given-first, given-rest, given-end, tree-in, treev-in}
-use Rattle.types.specs.Lows.{low, lows, lows-kids, lows-cases}
+use Rattle.types.specs.Steps.{Given, GivenRow, given-levels, given-within, given-inside, given-head, given-first, given-rest, given-end, tree-in, treev-in}
+use Rattle.types.specs.Lows.{low, lows, length-lows, lows-kids, lows-cases}
 use Rattle.structural.specs.declared.Form.{Form}
 use Rattle.structural.specs.declared.Form.the-variants as form
 use Rattle.structural.specs.declared.Parts.{Parts}
@@ -73,6 +75,17 @@ module _ {d : ℕ} {v : Bool} {s E : List ℕ} {p : ℕ} (g : Given d v s E p) w
 pub stands-end : {d : ℕ} {s E : List ℕ} {p : ℕ} → Stands d s E p → getD E p 0 ≡ ending d s p
 unfolding ending
 stands-end g = given-end (g .given)
+
+-- a level is left for it, and it stands in the file and in the table
+module _ {d : ℕ} {s E : List ℕ} {p : ℕ} (g : Stands d s E p) where
+  pub level-some : 1 ≤ d
+  level-some = let h = given-levels (g .given) in omega arith
+
+  pub next-fits : length s < 2 ^ 64 → Fits w64 (p + 1)
+  next-fits l = let h = given-within (g .given) in omega arith
+
+  pub stands-inside : p < length E
+  stands-inside = given-inside (g .given)
 
 -- PARTS THAT STAND IN THE FILE
 
@@ -139,11 +152,6 @@ module _ (d : ℕ) (s E : List ℕ) where
   copies-tree n p h g = record { few = h; given = given-copies n g; same = sym (copies d s n p) }
 
 -- THE KINDS OF TYPES
-
-length-lows : (d : ℕ) (v : Bool) (s : List ℕ) (n p : ℕ) → length (lows d v s n p) ≡ n
-unfolding lows
-length-lows d v s zero p = refl
-length-lows d v s (suc n) p = ap suc (length-lows d v s n (endOf (walk d v s p)))
 
 count-payloads : (vs : model.Variants) → count vs ≡ length (payloads vs)
 unfolding lower

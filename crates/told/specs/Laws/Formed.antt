@@ -5,13 +5,11 @@ use mathlib.Core.List.{List}
 use mathlib.Core.Logic.{_⊎_, inl, inr}
 use mathlib.Core.Option.{some, Option·none-ne-some}
 use Prim.Native.Nat.{ℕ, suc, _+_, _-_, _/_, _<_, _≤_}
-use native.Mathlib.Nat.{one-le-pow}
 use native.Mathlib.Omega.{arith}
 use lib.ListN.{length}
 use Rattle.num.specs.declared.NonZeroPow2Usize.{NonZeroPow2Usize}
 use Rattle.num.specs.declared.Pow2Usize.{Pow2Usize}
-use Rattle.num.specs.Powers.{bound, bound-log2, width-log2}
-use Rattle.num.specs.Laws.{wide}
+use Rattle.num.specs.Powers.{bound, bound-log2}
 use Rattle.model.specs.Balanced.{btree, fold}
 use Rattle.model.specs.Structural.{SValue, unit, pair, tupleOf}
 use Rattle.model.specs.Types.{Ty, never, bool, uint, either, option, tuple, array, list, enum, count}
@@ -23,17 +21,15 @@ use Rattle.types.specs.declared.Head.the-variants.{Missing, Faulty, Never, Bool
 use Rattle.types.specs.declared.Head.the-variants as head
 use Rattle.types.specs.declared.Rec.the-variants.{Variant}
 use Rattle.types.specs.Record.{headAt, callsFor, recAt}
-use Rattle.types.specs.Heads.{Fair, FairBound, FairWidth}
+use Rattle.types.specs.Heads.{Fair, FairBound, FairWidth, width-range}
 use Rattle.types.specs.Walks.{walk}
 use Rattle.types.specs.Trees.{endOf, kids, cases, node, payload, tree, treev}
-use Rattle.types.specs.Steps.{Given, GivenRow, given-levels, given-head, given-end, tree-in, treev-in}
+use Rattle.types.specs.Steps.{Given, GivenRow, given-levels, given-head, given-end, tree-in, treev-in, size-kids, count-cases}
 use Rattle.structural.specs.Forms.{is-variant, Stands}
 use Rattle.structural.specs.Laws.Forms.{stands}
 use Rattle.structural.specs.Laws.Bounds.{power-of}
 use Rattle.value.specs.Record.{number-at}
-use Rattle.value.specs.Steps.{size-kids}
 use Rattle.value.specs.Arms.{width-small}
-use Rattle.value.specs.Follow.{count-cases}
 use Rattle.told.specs.declared.Parts.{Parts}
 use Rattle.told.specs.declared.Parts.the-variants.{Copies, Types}
 use Rattle.told.specs.declared.Form.{Form}
@@ -88,7 +84,7 @@ Formed (form.Payload n) d s E val p v = PayloadTold n d s E val p v
 
 -- a width is 1 at least
 some-width : (w : Pow2Usize) → FairWidth w → 1 ≤ w .0
-some-width w f = rw (wide (w .0) (f .admitted) .power) (one-le-pow (width-log2 (w .0)) 2 (omega arith))
+some-width w f = width-range w f .0
 
 module _ (d : ℕ) (s E val : List ℕ) (p v : ℕ) (y : SValue × ℕ) (g : Stands d s E p) (told-so : standing d s val p v ≡ some y) where
   -- the type's node, over what stands below it

@@ -5,12 +5,12 @@ use mathlib.Core.Bool.{Bool, true, false}
 use mathlib.Core.List.{List, [], _∷_, _++_, map}
 use mathlib.Core.Option.{Option, none, some, Option·none-ne-some, Option·some-injective}
 use Prim.Native.Nat.{ℕ, zero, suc, _+_, _-_, _*_, _/_, _^_, _≤_, _<_}
-use native.Mathlib.Nat.{two-pow-succ, one-le-pow, sub-zero, zero-add, suc-add}
+use native.Mathlib.Nat.{two-pow-succ, one-le-pow, sub-zero}
 use native.Mathlib.Numerals.{sub-one}
 use native.Mathlib.Omega.{arith}
 use lib.Dec.{ltb}
 use lib.ListN.{length, getD, take, drop, length-append, length-take, length-drop}
-use lib.Seq.{take-at, drop-at, take-take, drop-drop, drop-cons, take-nil}
+use lib.Seq.{take-at, drop-at, take-take, drop-drop, drop-cons}
 use borrow.Author.Tests.{ltb-true, ltb-false, lt-ltb, le-ltb}
 use Rattle.num.specs.declared.NonZeroPow2Usize.{NonZeroPow2Usize}
 use Rattle.num.specs.declared.Bound.the-variants as bounds
@@ -23,12 +23,14 @@ use Rattle.model.specs.Structural.{SValue, unit, left, right, pair, enum-inject
 use Rattle.model.specs.Values.{bit}
 use Rattle.model.specs.Laws.Bytes.{length-bits-of}
 use Rattle.model.specs.Laws.Balanced.{split-bounds}
+use Rattle.model.specs.Laws.Records.{drop-take}
 use Rattle.model.specs.Laws.Sizes.{fold-one, fold-step, enum-one, enum-step}
 use Rattle.types.specs.Heads.{FairBound}
 use Rattle.structural.specs.Laws.Bounds.{Power, power-of}
 use Rattle.told.specs.declared.Parts.the-variants.{Copies}
 use Rattle.told.specs.Forms.{Told, standing, record-bits, row, bits-told, balanced, chosen, listed}
-use Rattle.told.specs.Laws.Trees.{Shapes, paired, and-then, joined, skip-copies, row-add, row-length}
+use Rattle.told.specs.Laws.Rows.{skip-copies}
+use Rattle.told.specs.Laws.Trees.{Shapes, paired, and-then, joined, row-add, row-length}
 
 -- BITS
 
@@ -46,11 +48,6 @@ module _ {A B : Type 0} (f : A → B) where
   map-drop zero l = refl
   map-drop (suc n) [] = refl
   map-drop (suc n) (x ∷ l) = map-drop n l
-
-drop-take : {A : Type 0} (m n : ℕ) (l : List A) → drop m (take (m + n) l) ≡ take n (drop m l)
-drop-take zero n l = ap (λ i. take i l) (zero-add n)
-drop-take (suc m) n [] = ap (λ i. drop (suc m) (take i [])) (suc-add m n) ∙ sym (take-nil n)
-drop-take (suc m) n (x ∷ l) = ap (λ i. drop (suc m) (take i (x ∷ l))) (suc-add m n) ∙ drop-take m n l
 
 module _ (val : List ℕ) (v j : ℕ) where
   pub bits-one : j < 288 → v < length val / 36 → bits-told val v j 1 ≡ bit (record-bit val v j)

@@ -2,7 +2,7 @@
 use mathlib.Core.Path.{_≡_, refl, sym, ap, _∙_}
 use mathlib.Core.Bool.{Bool, false}
 use mathlib.Core.List.{List, [], _∷_, map}
-use mathlib.Core.Option.{Option, none, some}
+use mathlib.Core.Option.{Option, some}
 use Prim.Native.Nat.{ℕ, zero, suc, _<_}
 use native.Mathlib.Nat.{add-zero}
 use native.Mathlib.Numerals.{sub-one}
@@ -13,6 +13,7 @@ use Rattle.model.specs.Structural.{SValue}
 use Rattle.model.specs.Types.{Ty, Tys}
 use Rattle.model.specs.Values.{Valid, inject, injects}
 use Rattle.model.specs.ValueFiles.{encode, encodes, many, parse, parse-at, parses}
+use Rattle.model.specs.Laws.Options.{bindO-known}
 use Rattle.model.specs.Laws.ValueFiles.{parse-sound}
 use Rattle.types.specs.Walks.{walk}
 use Rattle.types.specs.Trees.{endOf, kids, tree}
@@ -64,19 +65,17 @@ module _ {d : ℕ} {v : Bool} {s E : List ℕ} where
   pub given-types : (n p : ℕ) → GivenRow d v s E n p → GivenParts Types d s E n p
   given-types n p g = record { each = λ i l. rw (skipped i n p l g) (stands (hopped i n p l g)) }
 
-skip-copies : (d : ℕ) (s : List ℕ) (i p : ℕ) → skip Copies d s i p ≡ p
+-- COPIES, all at one place
+
+pub skip-copies : (d : ℕ) (s : List ℕ) (n p : ℕ) → skip Copies d s n p ≡ p
 unfolding skip after
 skip-copies d s zero p = refl
-skip-copies d s (suc i) p = skip-copies d s i p
+skip-copies d s (suc n) p = skip-copies d s n p
 
 pub given-copies : {d : ℕ} {s E : List ℕ} {p : ℕ} (n : ℕ) → Stands d s E p → GivenParts Copies d s E n p
 given-copies {d} {s} {E} {p} n g = record { each = λ i l. rw (skip-copies d s i p) g }
 
 -- WHAT THEY TELL
-
-bindO-same : {A B : Type 0} (o : Option A) (f g : A → Option B) → ((x : A) → f x ≡ g x) → bindO o f ≡ bindO o g
-bindO-same none f g h = refl
-bindO-same (some x) f g h = h x
 
 -- a tuple's parts
 pub types-row : (d : ℕ) (s E val : List ℕ) (n p v : ℕ) → GivenRow d false s E n p → row Types d s val n p v ≡ said-all (kids (tree d s) (walk d false s) n p) val v
@@ -86,7 +85,7 @@ types-row d s E val (suc n) p v g =
     let t = tree d s p in
     let q = endOf (walk d false s p) in
     let ts = kids (tree d s) (walk d false s) n q in
-    bindO-same (standing d s val p v) _ _ (λ x. ap (mapO (λ y. (x .0 ∷ y .0, y .1))) (ap (λ j. row Types d s val n j (x .1)) (ending-is (first g)) ∙ types-row d s E val n q (x .1) (rw (given-end (first g)) at (rest g))))
+    bindO-known (standing d s val p v) _ _ (λ x i. ap (mapO (λ y. (x .0 ∷ y .0, y .1))) (ap (λ j. row Types d s val n j (x .1)) (ending-is (first g)) ∙ types-row d s E val n q (x .1) (rw (given-end (first g)) at (rest g))))
     ∙ ap (λ o. bindO o (λ x. mapO (λ y. (x .0 ∷ y .0, y .1)) (said-all ts val (x .1)))) (standing-is val v (first g))
     ∙ sym (seen-then (Valid t) (inject t) (encode t) (injects ts) (encodes ts) (injects (kids (tree d s) (walk d false s) (suc n) p)) (encodes (kids (tree d s) (walk d false s) (suc n) p)) (λ x y. (x, y)) (λ x y. refl) (λ x y. refl) (parse t) (parse-sound t) (parses ts) val v)
 
@@ -96,6 +95,6 @@ unfolding row after told
 copies-row d s E val zero p v g = ap (λ n. some ([], n)) (sym (add-zero v))
 copies-row d s E val (suc n) p v g =
     let t = tree d s p in
-    bindO-same (standing d s val p v) _ _ (λ x. ap (mapO (λ y. (x .0 ∷ y .0, y .1))) (copies-row d s E val n p (x .1) g))
+    bindO-known (standing d s val p v) _ _ (λ x i. ap (mapO (λ y. (x .0 ∷ y .0, y .1))) (copies-row d s E val n p (x .1) g))
     ∙ ap (λ o. bindO o (λ x. mapO (λ y. (x .0 ∷ y .0, y .1)) (seen (map (λ x. inject t x)) (flatMap (λ x. encode t x)) (x .1) (many (parse t) n (rows-from val (x .1)))))) (standing-is val v g)
     ∙ sym (seen-then (Valid t) (inject t) (encode t) (map (λ x. inject t x)) (flatMap (λ x. encode t x)) (map (λ x. inject t x)) (flatMap (λ x. encode t x)) (λ x y. x ∷ y) (λ x y. refl) (λ x y. refl) (parse t) (parse-sound t) (many (parse t) n) val v)

@@ -10,11 +10,10 @@ use lib.Seq.{take-at, drop-at}
 use Rattle.model.specs.Options.{mapO, bindO}
 use Rattle.model.specs.Balanced.{btree-split-index, btree, fold}
 use Rattle.model.specs.Structural.{SValue, unit, pair}
-use Rattle.model.specs.Laws.Balanced.{split-bounds}
+use Rattle.model.specs.Laws.Balanced.{split-bounds, Shares}
 use Rattle.model.specs.Laws.Sizes.{fold-none, fold-one, fold-step}
 use Rattle.structural.specs.Forms.{Stands}
 use Rattle.told.specs.declared.Parts.{Parts}
-use Rattle.told.specs.declared.Parts.the-variants.{Copies}
 use Rattle.told.specs.Forms.{Told, standing, after, skip, row, GivenParts, balanced}
 
 -- ONE AFTER THE OTHER
@@ -161,11 +160,24 @@ module _ {k : Parts} {d : ℕ} {s E : List ℕ} {n p : ℕ} (g : GivenParts k d 
   pub given-right : (m : ℕ) → m ≤ n → GivenParts k d s E (n - m) (skip k d s m p)
   given-right m h = record { each = λ i l. rw (← skip-add k d s m i p) (g .each (m + i) (omega arith)) }
 
--- all at one place
-pub skip-copies : (d : ℕ) (s : List ℕ) (n p : ℕ) → skip Copies d s n p ≡ p
-unfolding skip after
-skip-copies d s zero p = refl
-skip-copies d s (suc n) p = skip-copies d s n p
+pub one-given : {k : Parts} {d : ℕ} {s E : List ℕ} {n p : ℕ} → GivenParts k d s E n p → n ≡ 1 → Stands d s E p
+one-given g z = given-one g (omega arith)
 
-pub given-copies : {d : ℕ} {s E : List ℕ} {p : ℕ} (n : ℕ) → Stands d s E p → GivenParts Copies d s E n p
-given-copies {d} {s} {E} {p} n g = record { each = λ i l. rw (skip-copies d s i p) g }
+-- and of the sides of their tree
+module _ {n few : ℕ} (h : Shares n few) {k : Parts} {d : ℕ} {s E : List ℕ} {p : ℕ} (g : GivenParts k d s E n p) where
+  pub left-given : GivenParts k d s E few p
+  left-given = let l = h .less in given-left g few (omega arith)
+
+  pub right-given : {q : ℕ} → q ≡ skip k d s few p → GivenParts k d s E (n - few) q
+  right-given e = let l = h .less in rw e (given-right g few (omega arith))
+
+-- the record after none, and after both sides
+pub skip-none : (k : Parts) (d : ℕ) (s : List ℕ) (n p : ℕ) → n ≡ 0 → p ≡ skip k d s n p
+unfolding skip
+skip-none k d s n p z = rw z refl
+
+pub skip-sides : {n few : ℕ} → Shares n few → (k : Parts) (d : ℕ) (s : List ℕ) (p : ℕ) {q r : ℕ} → q ≡ skip k d s few p → r ≡ skip k d s (n - few) q → r ≡ skip k d s n p
+skip-sides {n} {few} h k d s p e f =
+    let l = h .less in
+    let m : few + (n - few) ≡ n = omega arith in
+    f ∙ ap (skip k d s (n - few)) e ∙ sym (skip-add k d s few (n - few) p) ∙ ap (λ i. skip k d s i p) m

@@ -1,6 +1,6 @@
 -- The table of a type file that lowers has the width of what stands at each record: nothing in it is cut.
 use mathlib.Core.Path.{_≡_, refl, sym, ap, subst, _∙_}
-use mathlib.Core.Bool.{Bool, true, false, _||_}
+use mathlib.Core.Bool.{Bool, false}
 use mathlib.Core.List.{List}
 use Prim.Native.Nat.{ℕ, zero, suc, _+_, _≤_, _<_}
 use native.Mathlib.Omega.{arith}
@@ -11,6 +11,7 @@ use Rattle.model.specs.Structural.{SType}
 use Rattle.model.specs.Frames.{width}
 use Rattle.model.specs.Lowering.{over-large}
 use Rattle.model.specs.Laws.Lowering.{lowers-not-large}
+use Rattle.model.specs.Laws.Outcome.{or-false}
 use Rattle.model.specs.Laws.Sizes.{nodes, width-nodes}
 use Rattle.types.specs.declared.TypeAnswer.{TypeAnswer}
 use Rattle.types.specs.declared.TypeAnswer.the-variants.{Ok}
@@ -30,19 +31,11 @@ use Rattle.structural.specs.Forms.{is-variant, standing}
 use Rattle.told.specs.Widths.{Wide}
 
 -- where none of n records is flagged, each is not
-or-first : (a b : Bool) → a || b ≡ false → a ≡ false
-or-first false b h = refl
-or-first true b h = h
-
-or-second : (a b : Bool) → a || b ≡ false → b ≡ false
-or-second false b h = h
-or-second true b h = absurd (let z : _≡_ {A = ℕ} 0 1 = cc in omega arith)
-
 unflagged : (f : ℕ → Bool) (p n i : ℕ) → flagged f p n ≡ false → i < n → f (p + i) ≡ false
 unfolding flagged
 unflagged f p zero i h l = absurd (omega arith)
-unflagged f p (suc n) zero h l = let e : p + 0 ≡ p = omega arith in ap f e ∙ or-first (f p) (flagged f (p + 1) n) h
-unflagged f p (suc n) (suc i) h l = let e : p + suc i ≡ p + 1 + i = omega arith in ap f e ∙ unflagged f (p + 1) n i (or-second (f p) (flagged f (p + 1) n) h) (omega arith)
+unflagged f p (suc n) zero h l = let e : p + 0 ≡ p = omega arith in ap f e ∙ or-false (f p) (flagged f (p + 1) n) h .0
+unflagged f p (suc n) (suc i) h l = let e : p + suc i ≡ p + 1 + i = omega arith in ap f e ∙ unflagged f (p + 1) n i (or-false (f p) (flagged f (p + 1) n) h .1) (omega arith)
 
 -- a type of at most 65,536 records has at most 32,768 bits
 uncut : (t : SType) (x y : ℕ) → x ≡ cut (nodes t) → x ≤ most-shape-records → y ≡ cut (width t) → (y ≡ width t) × (y ≤ 32768)

@@ -21,7 +21,7 @@ use Rattle.value.proofs.check_value.Kinds as check-value-kinds
 use Rattle.value.proofs.+check_parts+check_payload+check_run+check_value.Lts-check_value as check-value-lts
 use Rattle.types.proofs.head_at.Reads as head-at-reads
 use Rattle.types.proofs.rec_at.Reads as rec-at-reads
-use Rattle.value.proofs.end_at.Reads as end-at-reads
+use Rattle.table.proofs.end_at.Reads as end-at-reads
 use Rattle.value.proofs.hop_over.Reads as hop-over-reads
 use Rattle.value.proofs.joints_of.Reads as joints-of-reads
 use Rattle.value.proofs.open_record.Reads as open-record-reads

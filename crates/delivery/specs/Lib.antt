@@ -1,3 +1,4 @@
+-- What an entry knows at each of its answers: `Delivering` for every entry, then a file for each.
 pub mod Delivering
 pub mod Values
 pub mod Lowers

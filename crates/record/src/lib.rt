@@ -1,4 +1,4 @@
-// One record of a value file, written: 36 bytes, kind, choice, a number of two bytes, an integer of 32 bytes. And how a type's record says to read a value.
+// One record of a value file (01, 'Value file'; ported from no Rust file), written: 36 bytes, kind, choice, a number of two bytes, an integer of 32 bytes. And how a type's record says to read a value.
 use num::NonZeroPow2Usize;
 use told::Parts;
 use types::Head;

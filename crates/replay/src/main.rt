@@ -49,6 +49,7 @@ struct Case {
     end: usize,
 }
 
+// How many cases an entry has, and how many of them differ.
 struct Tally {
     cases: u64,
     differ: u64,

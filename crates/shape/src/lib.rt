@@ -1,4 +1,4 @@
-// The shape of a value, after types/structural.rs: one byte a record, parent first, from its value file and its type file, which were checked before.
+// The shape of a value, after value.rs: one byte a record, parent first, from its value file and its type file, which were checked before.
 // The right side of a pair is written into the rest of the buffer after its left, so that each byte is written once.
 use array::btree_split_index;
 use bits::get_bit;

@@ -1,4 +1,4 @@
-// The table of a type file, one entry for each record: its end, the records of its lowered type and the bits of its frame.
+// The table of a type file (01's own, ported from no Rust file), one entry for each record: its end, the records of its lowered type and the bits of its frame.
 // With it rows 6 and 7 are decided. Sizes and widths are cut at 65,537, one more than a lowered type may have records.
 use array::btree_split_index;
 use num::NonZeroPow2Usize;

@@ -1,4 +1,4 @@
-// What a checked value file tells, record by record beside its type: the form of a value, for all that is written from it.
+// What a checked value file tells (01, 'Value file'; ported from no Rust file), record by record beside its type: the form of a value, for all that is written from it.
 // The file was checked before, so nothing is tested again.
 use num::NonZeroPow2Usize;
 use types::Head;

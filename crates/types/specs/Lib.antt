@@ -1,3 +1,4 @@
+-- What a type file says, record by record, and what its check answers; with the model: `Model`.
 pub mod Record
 pub mod Heads
 pub mod Walks

@@ -1,4 +1,5 @@
-// Reading a type file.
+// Type files, after types/inner.rs and types/resolved.rs: what each record says, and one pass over the file that finds the first row of 1 to 5 that holds
+// and where the subtree of each record ends.
 use num::Bound;
 use num::NonZeroPow2Usize;
 use num::Pow2Usize;
@@ -39,6 +40,7 @@ pub enum Rec {
     Variant(usize),
 }
 
+// Where a subtree ends, or the fault that comes first in it.
 pub enum Walk {
     End(usize),
     Bad(Refusal),
@@ -96,6 +98,7 @@ fn head_of(kind: u8, zero: u8, n: usize) -> Head
     }
 }
 
+// A byte as a number.
 fn wide(x: u8) -> usize
     ensures { λ r. ⌜ (r ≡ x) × (r < 256) ⌝ }
 {

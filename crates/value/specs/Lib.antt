@@ -1,3 +1,4 @@
+-- What a value file says beside its type, record by record, and what its check answers; with the model: `Model`.
 pub mod Record
 pub mod Lengths
 pub mod Opening

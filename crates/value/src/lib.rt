@@ -1,4 +1,4 @@
-// Value files against a type, in lock step: where the value ends and how many records its shape has, or the fault that comes first.
+// Value files against a type, after value.rs, whose makers of values refuse what row 16 refuses here. Both are walked in lock step: where the value ends and how many records its shape has, or the fault that comes first.
 // Shape lengths are cut at 65,537, one more than a shape may have records.
 use array::btree_split_index;
 use num::NonZeroPow2Usize;

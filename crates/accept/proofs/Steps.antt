@@ -3,7 +3,7 @@ use mathlib.Core.Path.{_≡_, refl, sym, ap, ap₂, subst, _∙_}
 use mathlib.Core.Bool.{Bool, true, false, not}
 use mathlib.Core.List.{List}
 use mathlib.Core.Option.{Option, some}
-use Prim.Native.Nat.{ℕ, zero, suc, _+_, _-_, _*_, _^_, _≤_, _<_}
+use Prim.Native.Nat.{ℕ, zero, suc, _+_, _-_, _*_, _≤_, _<_}
 use native.Mathlib.Omega.{arith}
 use mir.Syntax.{w64}
 use mir.Val.{Fits}
@@ -18,12 +18,14 @@ use Rattle.types.specs.declared.Head.{Head}
 use Rattle.types.specs.Record.{headAt}
 use Rattle.types.specs.Heads.{Fair, FairBound}
 use Rattle.structural.specs.Forms.{Stands, standing, listed}
+use Rattle.structural.specs.Laws.Forms.{stands-inside}
 use Rattle.bits.specs.Bits.{bits-at, Inside}
 use Rattle.told.specs.declared.Parts.{Parts}
 use Rattle.told.specs.declared.Parts.the-variants.{Copies, Types}
 use Rattle.told.specs.Forms.{GivenParts}
 use Rattle.told.specs.Widths.{Wide}
-use Rattle.told.specs.Laws.Trees.{given-one}
+use Rattle.told.specs.Laws.Trees.{given-one, one-given}
+use Rattle.told.specs.Laws.Widths.{width-there}
 use Rattle.rebuild.specs.Forms.{most-records}
 use Rattle.record.specs.declared.Form.{Form}
 use Rattle.record.specs.declared.Form.the-variants as form
@@ -34,12 +36,9 @@ use Rattle.accept.specs.Forms.{plus, seen, row-width, seen-row, seen-sum
 use Rattle.accept.specs.Answers.{answer, count-of, both-of, plain-form, Plain, Padded}
 use Rattle.accept.specs.Laws.Formed.{BitsSeen, ProductSeen, SumSeen, ListSeen, PayloadSeen, Formed, formed}
 use Rattle.accept.specs.Laws.Answers.{answer-plus, answer-small}
-use Rattle.accept.specs.Laws.Walking.{next-record, end-there, width-there, copies-bits, Rowing, rowing-stands, rowing-inside, padded-one, choice-clear, choice-stray, Two, list-two, Halved, list-more}
+use Rattle.accept.specs.Laws.Walking.{copies-bits, Rowing, rowing-stands, rowing-inside, padded-one, choice-clear, choice-stray, Two, list-two, Halved, list-more}
 
 -- RECORDS
-
-pub next-fits : {d : ℕ} {s E : List ℕ} {p : ℕ} → Stands d s E p → length s < 2 ^ 64 → Fits w64 (p + 1)
-next-fits g l = omega (arith, next-record g)
 
 -- a record's own is one of those that are seen
 one-more : (x z : Seen) (u o : Option ℕ) → o ≡ plus (some 1) u → x ≡ answer u → z ≡ both-of (Of 1) x → z ≡ answer o
@@ -194,7 +193,7 @@ row-plain Copies d s E n p fr bit z x a e g i h = h ∙ ap answer (sym (go n g (
 
 module _ {k : Parts} {d : ℕ} {s E : List ℕ} {n p : ℕ} {fr : List ℕ} {bit : ℕ} {all : Seen} {q here left : ℕ} (r : Rowing k d s E n p fr bit all q here left) (h : 0 < left) where
   pub row-end-there : q < length E
-  row-end-there = end-there (rowing-stands r h)
+  row-end-there = stands-inside (rowing-stands r h)
 
   pub row-width-there : {W : List ℕ} → Wide s E W → q < length W
   row-width-there u = width-there (rowing-stands r h) u
@@ -205,11 +204,8 @@ module _ {k : Parts} {d : ℕ} {s E : List ℕ} {n p : ℕ} {fr : List ℕ} {bit
 -- ONE CHOICE
 
 module _ {d : ℕ} {s E : List ℕ} {n p : ℕ} (g : GivenParts Types d s E n p) (e : n ≡ 1) where
-  pub one-given : Stands d s E p
-  one-given = given-one g (omega arith)
-
   pub one-there : {W : List ℕ} → Wide s E W → p < length W
-  one-there u = width-there one-given u
+  one-there u = width-there (one-given g e) u
 
   module _ {fr : List ℕ} {bit end : ℕ} (a : Padded d s n p fr bit end) where
     pub one-inside : Inside fr bit (width (standing d s p))
@@ -217,7 +213,7 @@ module _ {d : ℕ} {s E : List ℕ} {n p : ℕ} (g : GivenParts Types d s E n p)
 
     module _ {W : List ℕ} (u : Wide s E W) where
       pub one-last : bit + getD W p 0 ≤ end
-      one-last = let f = padded-one d s E n p fr bit end e a in omega (arith, u .right d p one-given)
+      one-last = let f = padded-one d s E n p fr bit end e a in omega (arith, u .right d p (one-given g e))
 
       pub one-fits : Fits w64 (bit + getD W p 0)
       one-fits = let l = one-last in let y = a .small in omega arith
@@ -226,7 +222,7 @@ module _ {d : ℕ} {s E : List ℕ} {n p : ℕ} (g : GivenParts Types d s E n p)
       one-run = let l = one-last in let x = a .inside in let y = a .small in (omega arith, omega arith)
 
       pub one-clear : (z : Bool) (x : Seen) → z ≡ not (any (bits-at fr (bit + getD W p 0) (end - (bit + getD W p 0)))) → z ≡ true → x ≡ answer (seen d s p fr bit) → x ≡ answer (seen-sum d s E n p fr bit end)
-      one-clear z x c t h = choice-clear d s E n p fr bit end W (getD W p 0) (bit + getD W p 0) z one-given u e refl refl c x t h
+      one-clear z x c t h = choice-clear d s E n p fr bit end W (getD W p 0) (bit + getD W p 0) z (one-given g e) u e refl refl c x t h
 
       pub one-stray : (z : Bool) → z ≡ not (any (bits-at fr (bit + getD W p 0) (end - (bit + getD W p 0)))) → z ≡ false → Stray ≡ answer (seen-sum d s E n p fr bit end)
-      one-stray z c t = choice-stray d s E n p fr bit end W (getD W p 0) (bit + getD W p 0) z one-given u e refl refl c t
+      one-stray z c t = choice-stray d s E n p fr bit end W (getD W p 0) (bit + getD W p 0) z (one-given g e) u e refl refl c t

@@ -19,17 +19,16 @@ use Rattle.model.specs.Balanced.{btree}
 use Rattle.model.specs.Frames.{width}
 use Rattle.model.specs.Laws.Options.{mapO-some}
 use Rattle.types.specs.Heads.{FairBound}
-use Rattle.types.specs.Steps.{given-within}
 use Rattle.structural.specs.Forms.{Stands}
 use Rattle.structural.specs.Forms as structural
-use Rattle.structural.specs.Laws.Forms.{stands-end}
 use Rattle.bits.specs.Bits.{Inside, Wrote}
 use Rattle.bits.specs.Laws.Writing.{wrote-then, wrote-same}
 use Rattle.told.specs.declared.Parts.{Parts}
-use Rattle.told.specs.declared.Parts.the-variants.{Copies, Types}
+use Rattle.told.specs.declared.Parts.the-variants.{Copies}
 use Rattle.told.specs.Forms.{GivenParts, hops, after-at}
 use Rattle.told.specs.Forms as told
 use Rattle.told.specs.Laws.Lists.{block-share}
+use Rattle.told.specs.Laws.Rows.{after-is}
 use Rattle.told.specs.Widths.{Wide}
 use Rattle.frame.specs.Forms.{Bits, and-then, frame-at, row, tags, chosen, block, listed, Fitted, Framed, Tagged}
 use Rattle.frame.specs.Laws.Told.{frame-width}
@@ -38,9 +37,6 @@ use Rattle.frame.specs.Laws.Writing.{fitted-as, framed-as, framed-none, 
 use Rattle.frame.specs.Laws.Forms.{BitsFramed, SumFramed, length-record-bits}
 
 -- RECORDS
-
-pub inside-widths : {d : ℕ} {s E : List ℕ} {p : ℕ} (g : Stands d s E p) {W : List ℕ} → Wide s E W → p < length W
-inside-widths g w = let l = given-within (g .given) in let k = w .long in omega arith
 
 pub value-fits : (val : List ℕ) (v : ℕ) → length val < 2 ^ 64 → v < length val / 36 → Fits w64 (v + 1)
 value-fits val v l h = omega arith
@@ -77,11 +73,6 @@ pub record Going (k : Parts) (d : ℕ) (s E val : List ℕ) (n p v : ℕ) (start
 
 pub going-start : {k : Parts} {d : ℕ} {s E val : List ℕ} {n p v : ℕ} {buf : List ℕ} {bit : ℕ} → GivenParts k d s E n p → Fitted (row k d s val n p v) buf bit → Going k d s E val n p v buf bit buf p v bit n
 going-start g f = record { given = g; rest = f; whole = λ new e z w. w; size = refl }
-
-after-is : (k : Parts) {d : ℕ} {s E : List ℕ} {p : ℕ} → Stands d s E p → after-at k E p ≡ told.after k d s p
-unfolding told.after
-after-is Copies g = refl
-after-is Types g = stands-end g
 
 module _ {k : Parts} {d : ℕ} {s E val : List ℕ} {n p v : ℕ} {start : List ℕ} {bit : ℕ} {buf : List ℕ} {place next here : ℕ} where
   first : (left : ℕ) → 0 < left → Going k d s E val n p v start bit buf place next here left → Stands d s E place × Fitted (frame-at d s val place next) buf here

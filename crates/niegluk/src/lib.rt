@@ -1,21 +1,8 @@
 // The public entries: each takes whole files and a buffer for its result (an edit: the frame that it changes), asks nothing of its caller, and answers a `Reply`.
-use accept::Accepted;
-use accept::accept;
-use edit::edit_part;
-use edit::read_part;
-use rebuild::Records;
-use rebuild::ShapeAnswer;
-use rebuild::check_shape;
-use rebuild::value_records;
-use reply::Refusal;
+// Each owns the table of the type file, lends it to `read_type`, and leaves the rest to its operation. The functions that own the table are proved by hand.
+use entries::Entry;
+use entries::read_type;
 use reply::Reply;
-use restore::write_value;
-use structural::write_lowered;
-use table::tabulate;
-use types::TypeAnswer;
-use types::check_type;
-use value::Checked;
-use value::check_file;
 ghost use mathlib.Core.Path.{_≡_};
 ghost use Rattle.model.specs.Edits.{Edited};
 ghost use Rattle.model.specs.Frames.{after};
@@ -28,39 +15,20 @@ mod c;
 pub fn lower(ty: &[u8], out: &mut [u8]) -> Reply
     ensures { λ r. ⌜ (numberOf r, lengthOf r, now (out .exit)) ≡ delivered (lowered (now (ty .entry))) (now (out .entry)) ⌝ }
 {
-    let mut ends = [0usize; 1024];
-    let mut sizes = [0usize; 1024];
-    let mut widths = [0usize; 1024];
-    match tabulate(ty, &mut ends, &mut sizes, &mut widths) {
-        TypeAnswer::Refused(x) => Reply::Refused(x),
-        TypeAnswer::Ok(_) => {
-            if out.len() < sizes[0] {
-                return Reply::Refused(Refusal::NoRoom);
-            }
-            Reply::Done(write_lowered(ty, &ends, 0, 32, out))
-        }
-    }
+    let mut table = [Entry::NONE; 1024];
+    let mut columns = [0usize; 2048];
+    let read = read_type(ty, true, &mut table, &mut columns);
+    operations::lower(ty, read, &columns, out)
 }
 
 // Writes the shape of a value over the front of `out`, and answers its length; every byte behind it stays, and all of them where it is refused.
 pub fn write_shape(ty: &[u8], value: &[u8], out: &mut [u8]) -> Reply
     ensures { λ r. ⌜ (numberOf r, lengthOf r, now (out .exit)) ≡ delivered (shaped (now (ty .entry)) (now (value .entry))) (now (out .entry)) ⌝ }
 {
-    let mut ends = [0usize; 1024];
-    let mut sizes = [0usize; 1024];
-    let mut widths = [0usize; 1024];
-    match tabulate(ty, &mut ends, &mut sizes, &mut widths) {
-        TypeAnswer::Refused(x) => Reply::Refused(x),
-        TypeAnswer::Ok(_) => match check_file(ty, &ends, value) {
-            Checked::Bad(x) => Reply::Refused(x),
-            Checked::Next(_, size) => {
-                if out.len() < size {
-                    return Reply::Refused(Refusal::NoRoom);
-                }
-                Reply::Done(shape::write_shape(ty, &ends, value, out))
-            }
-        },
-    }
+    let mut table = [Entry::NONE; 1024];
+    let mut columns = [0usize; 2048];
+    let read = read_type(ty, true, &mut table, &mut columns);
+    operations::write_shape(ty, read, &columns, value, out)
 }
 
 // Writes the value file that a shape gives as one of the type over the front of `out`, and answers its length; every byte behind it stays, and all of them where it is refused.
@@ -68,79 +36,40 @@ pub fn write_shape(ty: &[u8], value: &[u8], out: &mut [u8]) -> Reply
 pub fn reconstruct(ty: &[u8], shape: &[u8], out: &mut [u8]) -> Reply
     ensures { λ r. ⌜ (numberOf r, lengthOf r, now (out .exit)) ≡ delivered (reconstructed (now (ty .entry)) (now (shape .entry))) (now (out .entry)) ⌝ }
 {
-    let mut ends = [0usize; 1024];
-    match check_type(ty, &mut ends) {
-        TypeAnswer::Refused(x) => Reply::Refused(x),
-        TypeAnswer::Ok(_) => match check_shape(shape) {
-            ShapeAnswer::Refused(x) => Reply::Refused(x),
-            ShapeAnswer::Ok => match value_records(ty, &ends, shape) {
-                Records::Not => Reply::Refused(Refusal::NotReconstructed),
-                Records::Of(n) => {
-                    if out.len() < n * 36 {
-                        return Reply::Refused(Refusal::NoRoom);
-                    }
-                    Reply::Done(write_value(ty, &ends, shape, out))
-                }
-            },
-        },
-    }
+    let mut table = [Entry::NONE; 1024];
+    let mut columns = [0usize; 2048];
+    let read = read_type(ty, false, &mut table, &mut columns);
+    operations::reconstruct(ty, read, &columns, shape, out)
 }
 
 // Writes the frame of a value over the front of `out`, and answers its length; every byte behind it stays, and all of them where it is refused.
 pub fn write_frame(ty: &[u8], value: &[u8], out: &mut [u8]) -> Reply
     ensures { λ r. ⌜ (numberOf r, lengthOf r, now (out .exit)) ≡ delivered (framed after (now (ty .entry)) (now (value .entry))) (now (out .entry)) ⌝ }
 {
-    let mut ends = [0usize; 1024];
-    let mut sizes = [0usize; 1024];
-    let mut widths = [0usize; 1024];
-    match tabulate(ty, &mut ends, &mut sizes, &mut widths) {
-        TypeAnswer::Refused(x) => Reply::Refused(x),
-        TypeAnswer::Ok(_) => match check_file(ty, &ends, value) {
-            Checked::Bad(why) => Reply::Refused(why),
-            Checked::Next(_, _) => {
-                let bytes = (widths[0] + 7) / 8;
-                if out.len() < bytes {
-                    return Reply::Refused(Refusal::NoRoom);
-                }
-                Reply::Done(frame::write_frame(ty, &ends, &widths, value, out))
-            }
-        },
-    }
+    let mut table = [Entry::NONE; 1024];
+    let mut columns = [0usize; 2048];
+    let read = read_type(ty, true, &mut table, &mut columns);
+    operations::write_frame(ty, read, &columns, value, out)
 }
 
 // Writes the value file of an accepted frame over the front of `out`, and answers its length; every byte behind it stays, and all of them where it is refused.
 pub fn read_frame(ty: &[u8], frame: &[u8], out: &mut [u8]) -> Reply
     ensures { λ r. ⌜ (numberOf r, lengthOf r, now (out .exit)) ≡ delivered (unframed after (now (ty .entry)) (now (frame .entry))) (now (out .entry)) ⌝ }
 {
-    let mut ends = [0usize; 1024];
-    let mut sizes = [0usize; 1024];
-    let mut widths = [0usize; 1024];
-    match tabulate(ty, &mut ends, &mut sizes, &mut widths) {
-        TypeAnswer::Refused(x) => Reply::Refused(x),
-        TypeAnswer::Ok(_) => match accept(ty, &ends, &widths, frame) {
-            Accepted::Refused(x) => Reply::Refused(x),
-            Accepted::Records(n) => {
-                let len = n * 36;
-                if out.len() < len {
-                    return Reply::Refused(Refusal::NoRoom);
-                }
-                Reply::Done(unframe::write_value(ty, &ends, &widths, frame, out))
-            }
-        },
-    }
+    let mut table = [Entry::NONE; 1024];
+    let mut columns = [0usize; 2048];
+    let read = read_type(ty, true, &mut table, &mut columns);
+    operations::read_frame(ty, read, &columns, frame, out)
 }
 
 // Writes the value file of the part that a path leads to in an accepted frame over the front of `out`, and answers its length; every byte behind it stays, and all of them where it is refused.
 pub fn part_read(ty: &[u8], frame: &[u8], path: &[u8], out: &mut [u8]) -> Reply
     ensures { λ r. ⌜ (numberOf r, lengthOf r, now (out .exit)) ≡ delivered (part-read after (now (ty .entry)) (now (frame .entry)) (now (path .entry))) (now (out .entry)) ⌝ }
 {
-    let mut ends = [0usize; 1024];
-    let mut sizes = [0usize; 1024];
-    let mut widths = [0usize; 1024];
-    match tabulate(ty, &mut ends, &mut sizes, &mut widths) {
-        TypeAnswer::Refused(x) => Reply::Refused(x),
-        TypeAnswer::Ok(_) => read_part(ty, &ends, &widths, frame, path, out),
-    }
+    let mut table = [Entry::NONE; 1024];
+    let mut columns = [0usize; 2048];
+    let read = read_type(ty, true, &mut table, &mut columns);
+    operations::part_read(ty, read, &columns, frame, path, out)
 }
 
 // Replaces the part that a path leads to in an accepted frame by a value of the part's type, in the frame's own bytes, and answers the frame's length; no bit outside the part's own stretch changes, and none at all where it is refused.
@@ -149,11 +78,8 @@ pub fn part_edit(ty: &[u8], frame: &mut [u8], path: &[u8], value: &[u8]) -> Repl
     ensures { λ r. ⌜ (numberOf r, lengthOf r, now (frame .exit)) ≡ delivered (edited after (now (ty .entry)) (now (frame .entry)) (now (path .entry)) (now (value .entry))) (now (frame .entry)) ⌝ }
     ensures { λ r. ⌜ Edited after (now (ty .entry)) (now (frame .entry)) (now (path .entry)) (now (value .entry)) (numberOf r) (lengthOf r) (now (frame .exit)) ⌝ }
 {
-    let mut ends = [0usize; 1024];
-    let mut sizes = [0usize; 1024];
-    let mut widths = [0usize; 1024];
-    match tabulate(ty, &mut ends, &mut sizes, &mut widths) {
-        TypeAnswer::Refused(x) => Reply::Refused(x),
-        TypeAnswer::Ok(_) => edit_part(ty, &ends, &widths, frame, path, value),
-    }
+    let mut table = [Entry::NONE; 1024];
+    let mut columns = [0usize; 2048];
+    let read = read_type(ty, true, &mut table, &mut columns);
+    operations::part_edit(ty, read, &columns, frame, path, value)
 }

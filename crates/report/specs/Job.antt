@@ -1,7 +1,7 @@
 -- What the program `job` prints of its two files (01, 'Along the edges', its last paragraph): the three lines, or the one of the first row that holds.
 -- A file over 65,536 bytes is 17 before all else; nothing else is, since the results always fit.
 use mathlib.Core.Path.{_≡_}
-use mathlib.Core.Bool.{false}
+use mathlib.Core.Bool.{true, false}
 use mathlib.Core.List.{List}
 use Prim.Native.Nat.{ℕ, _≤_}
 use lib.Dec.{ltb}
@@ -17,6 +17,10 @@ use Rattle.model.specs.Operations.{lowering, lowered, shaped, framed}
 use Rattle.types.specs.Trees.{tree}
 use Rattle.types.specs.Steps.{Given}
 use Rattle.told.specs.Widths.{Wide}
+use Rattle.entries.specs.declared.Read.{Read}
+use Rattle.entries.specs.Answers.{TypeRead}
+use Rattle.structural.specs.Writing.{Wrote}
+use Rattle.io.specs.Counts.{Counts}
 use Rattle.text.specs.Lines.{job-lines, refusal-line}
 
 -- the most bytes that a file may have
@@ -51,3 +55,19 @@ pub record Accepted (s E W val : List ℕ) : Type 0 where
   pub small : length (type-records (lower (tree 32 s 0))) ≤ most-shape-records
   pub value : Value (tree 32 s 0)
   pub says : value-of (tree 32 s 0) val ≡ done value
+
+-- two files that are not too long, and a buffer that always holds what is printed of them
+pub record Printable (s val out : List ℕ) : Type 0 where
+  pub short-type : length s ≤ most
+  pub short-value : length val ≤ most
+  pub room : 140000 ≤ length out
+
+-- the same, with the type file read
+pub record Prints (s : List ℕ) (r : Read) (C val out : List ℕ) : Type 0 where
+  pub read : TypeRead true s r C
+  pub printable : Printable s val out
+
+-- what is printed stands over the front of the buffer, and n counts its bytes
+pub record Reported (s val out out′ : List ℕ) (n : ℕ) : Type 0 where
+  pub wrote : Wrote (job-text s val) out out′ n
+  pub counts : Counts n out′

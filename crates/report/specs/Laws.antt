@@ -41,7 +41,7 @@ use Rattle.io.specs.Counts.{Counts}
 use Rattle.delivery.specs.Lowers.{lower-given, lowers, lowers-small}
 use Rattle.delivery.specs.Values.{value-refused, value-read, value-valid}
 use Rattle.delivery.specs.Frames.{frame-wide}
-use Rattle.report.specs.Job.{most, job, job-text, Accepted}
+use Rattle.report.specs.Job.{most, job, job-text, Accepted, Reported}
 
 -- what was written over the front of a buffer is what its length cuts out of it
 pub cut-out : {xs out o : List ℕ} {n : ℕ} → Wrote xs out o n → take n o ≡ xs
@@ -126,11 +126,15 @@ module _ {s E W val : List ℕ} (a : Accepted s E W val) where
 -- THE ROWS
 
 -- a line that is printed was written, and counts bytes of the buffer
-pub text-written : (s val : List ℕ) {xs out o : List ℕ} {n : ℕ} → job-text s val ≡ xs → length xs ≤ length out → Wrote xs out o n → Wrote (job-text s val) out o n × Counts n o
-text-written s val e h w = (rw e w, wrote-counts h w)
+pub text-written : (s val : List ℕ) {xs out o : List ℕ} {n : ℕ} → job-text s val ≡ xs → length xs ≤ length out → Wrote xs out o n → Reported s val out o n
+text-written s val e h w = record { wrote = rw e w; counts = wrote-counts h w }
 
-pub text-counts : (s val : List ℕ) {out o : List ℕ} {n : ℕ} → length (job-text s val) ≤ length out → Wrote (job-text s val) out o n → Wrote (job-text s val) out o n × Counts n o
-text-counts s val h w = (w, wrote-counts h w)
+pub text-counts : (s val : List ℕ) {out o : List ℕ} {n : ℕ} → length (job-text s val) ≤ length out → Wrote (job-text s val) out o n → Reported s val out o n
+text-counts s val h w = record { wrote = w; counts = wrote-counts h w }
+
+-- as the two promises of `report`
+pub reported : {s val out o : List ℕ} {n : ℕ} → Reported s val out o n → Wrote (job-text s val) out o n × Counts n o
+reported r = (r .wrote, r .counts)
 
 number-small : (x : Refusal) → refusalNumber x ≤ 17
 number-small refusal.TypeLength = omega arith
@@ -159,7 +163,7 @@ pub refused-as : {m n : ℕ} {out o : List ℕ} {r : ℕ} → m ≡ n → Wrote 
 refused-as e w = rw (← e) w
 
 -- a refusal is printed
-pub refusal-written : (s val : List ℕ) (x : Refusal) {out o : List ℕ} {n : ℕ} → job-text s val ≡ refusal-line (refusalNumber x) → 140000 ≤ length out → Wrote (refusal-line (refusalNumber x)) out o n → Wrote (job-text s val) out o n × Counts n o
+pub refusal-written : (s val : List ℕ) (x : Refusal) {out o : List ℕ} {n : ℕ} → job-text s val ≡ refusal-line (refusalNumber x) → 140000 ≤ length out → Wrote (refusal-line (refusalNumber x)) out o n → Reported s val out o n
 refusal-written s val x e h w = text-written s val e (omega (arith, refusal-room x)) w
 
 module _ (s val : List ℕ) where

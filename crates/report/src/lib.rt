@@ -1,14 +1,15 @@
 // What the program `job` prints of a type file and a value file, made whole in a buffer.
-// The table is filled once and the value checked once; the three results are written into buffers that always hold them.
+// The type is read once and the value checked once; the three results are written into buffers that always hold them.
+use entries::Entry;
+use entries::Read;
+use entries::read_type;
 use frame::write_frame;
 use reply::Refusal;
 use reply::refusal_number;
 use shape::write_shape;
 use structural::write_lowered;
-use table::tabulate;
 use text::write_job;
 use text::write_refusal;
-use types::TypeAnswer;
 use value::Checked;
 use value::check_file;
 ghost use Prim.Native.Nat.{_≤_};
@@ -17,10 +18,13 @@ ghost use Rattle.io.specs.Counts.{Counts};
 ghost use Rattle.structural.specs.Writing.{Wrote};
 ghost use Rattle.reply.specs.Numbers.{refusalNumber};
 ghost use Rattle.text.specs.Lines.{refusal-line};
-ghost use Rattle.report.specs.Job.{job-text, Accepted};
+ghost use Rattle.report.specs.Job.{job-text, Accepted, Printable, Prints, Reported};
 
 // The most bytes that a file may have.
 const MOST: usize = 65536;
+
+// The ends stand in the first half of the columns, the widths in the second.
+const RECORDS: usize = 1024;
 
 // Writes the line of a refusal, and answers its length.
 fn write_refused(x: Refusal, out: &mut [u8]) -> usize
@@ -45,6 +49,35 @@ fn write_accepted(ty: &[u8], ends: &[usize], widths: &[usize], val: &[u8], out: 
     write_job(&lowered[..n], &shape[..m], &frame[..k], out)
 }
 
+// Writes what `job` prints of a type file that was read and a value file, both of at most 65,536 bytes.
+fn report_read(ty: &[u8], read: Read, columns: &[usize], val: &[u8], out: &mut [u8]) -> usize
+    requires { ⌜ Prints (now ty) read (now columns) (now val) (now out) ⌝ }
+    ensures { λ r. ⌜ Reported (now (ty .entry)) (now (val .entry)) (now (out .entry)) (now (out .exit)) r ⌝ }
+{
+    match read {
+        Read::Refused(x) => write_refused(x, out),
+        Read::Root(_) => {
+            let ends = &columns[..RECORDS];
+            let widths = &columns[RECORDS..];
+            match check_file(ty, ends, val) {
+                Checked::Bad(x) => write_refused(x, out),
+                Checked::Next(_, _) => write_accepted(ty, ends, widths, val, out),
+            }
+        }
+    }
+}
+
+// Writes what `job` prints of two files of at most 65,536 bytes. It owns the table of the type file.
+fn report_type(ty: &[u8], val: &[u8], out: &mut [u8]) -> usize
+    requires { ⌜ Printable (now ty) (now val) (now out) ⌝ }
+    ensures { λ r. ⌜ Reported (now (ty .entry)) (now (val .entry)) (now (out .entry)) (now (out .exit)) r ⌝ }
+{
+    let mut table = [Entry::NONE; 1024];
+    let mut columns = [0usize; 2048];
+    let read = read_type(ty, true, &mut table, &mut columns);
+    report_read(ty, read, &columns, val, out)
+}
+
 // Writes what `job` prints over the front of `out`, and answers its length.
 pub fn report(ty: &[u8], val: &[u8], out: &mut [u8]) -> usize
     requires { ⌜ 140000 ≤ length (now out) ⌝ }
@@ -57,14 +90,5 @@ pub fn report(ty: &[u8], val: &[u8], out: &mut [u8]) -> usize
     if MOST < val.len() {
         return write_refused(Refusal::NoRoom, out);
     }
-    let mut ends = [0usize; 1024];
-    let mut sizes = [0usize; 1024];
-    let mut widths = [0usize; 1024];
-    match tabulate(ty, &mut ends, &mut sizes, &mut widths) {
-        TypeAnswer::Refused(x) => write_refused(x, out),
-        TypeAnswer::Ok(_) => match check_file(ty, &ends, val) {
-            Checked::Bad(x) => write_refused(x, out),
-            Checked::Next(_, _) => write_accepted(ty, &ends, &widths, val, out),
-        },
-    }
+    report_type(ty, val, out)
 }

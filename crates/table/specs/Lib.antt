@@ -8,5 +8,6 @@ pub mod Flags
 pub mod Lowering
 pub mod Steps
 pub mod Arms
+pub mod Halves
 pub mod Measuring
 pub mod Tabled

@@ -6,7 +6,7 @@ use Prim.Native.Nat.{ℕ, zero, suc, _+_, _-_, _≤_, _<_, _/_}
 use native.Mathlib.Decide.{decLe}
 use native.Mathlib.Omega.{arith}
 use lib.Dec.{eqb, ltb}
-use lib.ListN.{length, getD, set, length-set}
+use lib.ListN.{length, getD, set, take, drop, length-set, length-take, length-drop}
 use lib.Seq.{getD-set-same, getD-set-other}
 use borrow.Author.Tests.{eqb-false}
 use Rattle.model.specs.Options.{pick}
@@ -36,6 +36,7 @@ use Rattle.table.specs.declared.Flags as flags
 use Rattle.table.specs.Facts.{cut, factsOf, factsTrue, Measured}
 use Rattle.table.specs.Entries.{facts-right}
 use Rattle.table.specs.Flags.{flagged}
+use Rattle.table.specs.Halves.{second-half, put-first, put-second}
 use Rattle.table.specs.Lowering.{neverAt, largeAt, isNever, never-flagged, large-flagged}
 
 -- what the loop is given: an accepted file of n records, its ends, and columns that are long enough
@@ -74,6 +75,12 @@ entered s E S W i h f x y eh fh ef ex ey =
       sizes = ap (λ (f : facts.Facts). set S i (f .size)) same;
       widths = ap (λ (f : facts.Facts). set W i (f .width)) same;
     }
+
+-- the same of the halves of one slice
+pub entered-halves : (s E F : List ℕ) (i : ℕ) (h : Head) (f : facts.Facts) (x y : Bool) → i < 1024 → h ≡ headAt s i → Fair h → f ≡ factsOf h E (take 1024 F) (take (length F - 1024) (drop 1024 F)) (i + 1) → x ≡ isNever h → y ≡ ltb most-shape-records (f .size) → Entered s E i (take 1024 F) (drop 1024 F) (record { never = x; large = y }) (take 1024 (set (set F i (f .size)) (1024 + i) (f .width))) (drop 1024 (set (set F i (f .size)) (1024 + i) (f .width)))
+entered-halves s E F i h f x y l eh fh ef ex ey =
+    rw (put-first F i (f .size) (f .width) l, put-second F i (f .size) (f .width) l)
+    (entered s E (take 1024 F) (drop 1024 F) i h f x y eh fh (ef ∙ ap (λ l. factsOf h E (take 1024 F) l (i + 1)) (second-half F)) ex ey)
 
 -- BETWEEN THE STEPS: the records from i on are put down
 
@@ -147,6 +154,14 @@ pub filling-next : {s E S W S′ W′ : List ℕ} {n i : ℕ} {x y : Bool} (x′
 filling-next {s} {E} {S} {W} {S′} {W′} {n} {i} {x} {y} x′ y′ r g h t ex ey =
     let z : i ≡ (i - 1) + 1 = omega arith in
     filling-at s E S W S′ W′ n (i - 1) x y x′ y′ r (subst (λ i. Filling s E n i x y S W) z g) t ex ey
+
+-- the next record's places in one slice whose halves are filled
+pub filling-places : {s E : List ℕ} {n i : ℕ} {x y : Bool} (F : List ℕ) → Filling s E n i x y (take 1024 F) (drop 1024 F) → 0 < i → (i - 1 < 1024) × (1024 + (i - 1) < length F)
+filling-places F g h =
+    let a = g .within in
+    let b = g .given .sizes in
+    let c = g .given .widths in
+    (omega (arith, length-take 1024 F), omega (arith, length-drop 1024 F))
 
 -- ALL OF THEM
 

@@ -11,13 +11,16 @@ use types::head_at;
 ghost use mathlib.Core.Path.{_≡_};
 ghost use mathlib.Core.Bool.{_||_};
 ghost use Prim.Native.Nat.{_≤_, _<_, _-_, _+_, _*_, max};
-ghost use lib.ListN.{length, getD};
+ghost use lib.ListN.{length, getD, take, drop};
 ghost use Rattle.model.specs.Balanced.{btree};
 ghost use Rattle.types.specs.Heads.{Fair, FairWidth, FairBound};
 ghost use Rattle.table.specs.Lowering.{isNever};
 ghost use Rattle.table.specs.Measuring.{Measurable, Measures, Entered};
 ghost use Rattle.table.specs.Tabled.{Tabled};
 ghost use Rattle.table.specs.Facts.{cut, entry, sums, sumWidth, product, uintFacts, eitherFacts, optionFacts, arrayFacts, listFacts, enumFacts, factsOf};
+
+// The most records that a type file has: the sizes stand in the first half of a slice of facts, the widths in the second.
+const RECORDS: usize = 1024;
 
 // The records and the bits of what stands at a type record: of a Variant those of its payload type.
 pub struct Facts {
@@ -262,15 +265,16 @@ fn one_of(a: bool, b: bool) -> bool
 }
 
 // Puts down the entries of record i by those of the records behind it, and tells whether a Never stands there and whether it is too large.
-fn enter(ty: &[u8], ends: &[usize], sizes: &mut [usize], widths: &mut [usize], i: usize) -> Flags
-    requires { ⌜ i < length (now sizes) ⌝ }
-    requires { ⌜ i < length (now widths) ⌝ }
-    ensures { λ r. ⌜ Entered (now (ty .entry)) (now (ends .entry)) i (now (sizes .entry)) (now (widths .entry)) r (now (sizes .exit)) (now (widths .exit)) ⌝ }
+fn enter(ty: &[u8], ends: &[usize], facts: &mut [usize], i: usize) -> Flags
+    requires { ⌜ i < 1024 ⌝ }
+    requires { ⌜ 1024 + i < length (now facts) ⌝ }
+    ensures { λ r. ⌜ Entered (now (ty .entry)) (now (ends .entry)) i (take 1024 (now (facts .entry))) (drop 1024 (now (facts .entry))) r (take 1024 (now (facts .exit))) (drop 1024 (now (facts .exit))) ⌝ }
 {
     let h = head_at(ty, i);
-    let f = facts_of(h, ends, sizes, widths, i + 1);
-    sizes[i] = f.size;
-    widths[i] = f.width;
+    let known = &facts[..];
+    let f = facts_of(h, ends, &known[..RECORDS], &known[RECORDS..], i + 1);
+    facts[i] = f.size;
+    facts[RECORDS + i] = f.width;
     Flags {
         never: is_never(h),
         large: 65536 < f.size,
@@ -278,22 +282,16 @@ fn enter(ty: &[u8], ends: &[usize], sizes: &mut [usize], widths: &mut [usize], i
 }
 
 // Fills the table of an accepted type file of n records, each entry once, and tells whether a Never stands somewhere and whether something is too large.
-pub fn measure(
-    ty: &[u8],
-    ends: &[usize],
-    sizes: &mut [usize],
-    widths: &mut [usize],
-    n: usize,
-) -> Flags
-    requires { ⌜ Measurable (now ty) (now ends) (now sizes) (now widths) n ⌝ }
-    ensures { λ r. ⌜ Measures (now (ty .entry)) r (now (sizes .exit)) (now (widths .exit)) ⌝ }
+pub fn measure(ty: &[u8], ends: &[usize], facts: &mut [usize], n: usize) -> Flags
+    requires { ⌜ Measurable (now ty) (now ends) (take 1024 (now facts)) (drop 1024 (now facts)) n ⌝ }
+    ensures { λ r. ⌜ Measures (now (ty .entry)) r (take 1024 (now (facts .exit))) (drop 1024 (now (facts .exit))) ⌝ }
 {
     let mut never = false;
     let mut large = false;
     let mut i = n;
     while i > 0 {
         i -= 1;
-        let r = enter(ty, ends, sizes, widths, i);
+        let r = enter(ty, ends, facts, i);
         never = one_of(r.never, never);
         large = one_of(r.large, large);
     }
@@ -304,20 +302,14 @@ pub fn measure(
 }
 
 // Rows 1 to 7: how many records a type file that lowers has, or why it is refused; the table is filled where it is accepted.
-pub fn tabulate(
-    ty: &[u8],
-    ends: &mut [usize],
-    sizes: &mut [usize],
-    widths: &mut [usize],
-) -> TypeAnswer
+pub fn tabulate(ty: &[u8], ends: &mut [usize], facts: &mut [usize]) -> TypeAnswer
     requires { ⌜ 1024 ≤ length (now ends) ⌝ }
-    requires { ⌜ 1024 ≤ length (now sizes) ⌝ }
-    requires { ⌜ 1024 ≤ length (now widths) ⌝ }
-    ensures { λ r. ⌜ Tabled (now (ty .entry)) r (now (ends .exit)) (now (sizes .exit)) (now (widths .exit)) ⌝ }
+    requires { ⌜ length (now facts) ≡ 2048 ⌝ }
+    ensures { λ r. ⌜ Tabled (now (ty .entry)) r (now (ends .exit)) (take 1024 (now (facts .exit))) (drop 1024 (now (facts .exit))) ⌝ }
 {
     match check_type(ty, ends) {
         TypeAnswer::Ok(n) => {
-            let f = measure(ty, ends, sizes, widths, n);
+            let f = measure(ty, ends, facts, n);
             if f.never {
                 return TypeAnswer::Refused(Refusal::NeverStands);
             }

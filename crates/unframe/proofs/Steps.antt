@@ -5,7 +5,7 @@ use mathlib.Core.List.{List, [], _∷_, _++_, append-nil, append-assoc}
 use mathlib.Core.Option.{Option, none, some, Option·some-injective, Option·none-ne-some}
 use Prim.Native.Nat.{ℕ, suc, _+_, _-_, _*_, _^_, _≤_, _<_}
 use native.Mathlib.Omega.{arith}
-use lib.ListN.{length, length-take, length-drop}
+use lib.ListN.{length}
 use Rattle.num.specs.declared.NonZeroPow2Usize.{NonZeroPow2Usize}
 use Rattle.model.specs.Options.{mapO}
 use Rattle.model.specs.Bytes.{in-bytes}
@@ -14,36 +14,24 @@ use Rattle.model.specs.ValueFiles.{Rec, rec, bit-number}
 use Rattle.model.specs.Frames.{width}
 use Rattle.model.specs.Laws.Options.{bindO-some, mapO-some}
 use Rattle.model.specs.Laws.Sizes.{width-block}
-use Rattle.types.specs.Steps.{given-levels, given-within}
 use Rattle.structural.specs.Forms.{Stands}
 use Rattle.structural.specs.Forms as structural
-use Rattle.structural.specs.Laws.Forms.{stands-end}
 use Rattle.structural.specs.Writing.{put, Wrote}
 use Rattle.structural.specs.Laws.Writing.{rest, back, wrote-none, wrote-length}
 use Rattle.bits.specs.Bits.{Inside}
 use Rattle.told.specs.declared.Parts.{Parts}
-use Rattle.told.specs.declared.Parts.the-variants.{Copies, Types}
-use Rattle.told.specs.Forms.{GivenParts, after, skip}
+use Rattle.told.specs.declared.Parts.the-variants.{Copies}
+use Rattle.told.specs.Forms.{GivenParts, after}
+use Rattle.told.specs.Laws.Trees.{given-one}
 use Rattle.record.specs.Marks.{bytes, written}
 use Rattle.record.specs.Trees.{numbered}
 use Rattle.accept.specs.Forms.{tag-at, row-width}
-use Rattle.told.specs.Widths.{Wide}
-use Rattle.told.specs.Forms.{after-at}
+use Rattle.accept.specs.Laws.Walking.{given-rest, row-wide}
 use Rattle.unframe.specs.declared.Numbered.{Numbered}
 use Rattle.unframe.specs.Forms.{standing, both, row, block, both-numbered, listed, Ready, ReadyNumbered, Placed, PlacedNumbered}
 use Rattle.unframe.specs.Laws.Formed.{Marked, Counted}
 use Rattle.unframe.specs.Laws.Lists.{block-none, block-all, Halved}
-use Rattle.record.specs.Laws.Writing.{first-room, first-fits, second-room, both-done, both-small, record-room, below-room, below-length, record-small, record-done, record-alone, lent, returned, integer-put}
-
--- a record that stands has a level, and its widths and its end stand in the tables
-pub level-some : {d : ℕ} {s E : List ℕ} {p : ℕ} → Stands d s E p → 1 ≤ d
-level-some {d} g = let l = given-levels (g .given) in omega arith
-
-pub next-fits : {d : ℕ} {s E : List ℕ} {p : ℕ} → Stands d s E p → length s < 2 ^ 64 → p + 1 < 2 ^ 64
-next-fits g l = let m = given-within (g .given) in omega arith
-
-pub wide-inside : {d : ℕ} {s E W : List ℕ} {p : ℕ} → Stands d s E p → Wide s E W → p < length W
-wide-inside g w = let l = given-within (g .given) in let m = w .long in omega arith
+use Rattle.record.specs.Laws.Writing.{first-room, first-fits, second-room, both-done, both-small, record-room, below-room, below-length, record-small, record-done, record-alone, returned, integer-put}
 
 -- WHAT IS THERE IS ONE THING
 
@@ -168,19 +156,14 @@ module _ {k : Parts} {d : ℕ} {s E : List ℕ} {n p : ℕ} {fr : List ℕ} {bit
 
   module _ (z : 0 < left) where
     pub rowing-stands : Stands d s E place
-    unfolding skip
-    rowing-stands = r .given .each 0 z
+    rowing-stands = given-one (r .given) z
 
     one-more : row k d s left place fr here ≡ both (standing d s place fr here) (row k d s (left - 1) (after k d s place) fr (here + width (structural.standing d s place)))
     unfolding row
     one-more = let e : left ≡ suc (left - 1) = omega arith in ap (λ m. row k d s m place fr here) e
 
-    one-wide : row-width k d s left place ≡ width (structural.standing d s place) + row-width k d s (left - 1) (after k d s place)
-    unfolding row-width
-    one-wide = let e : left ≡ suc (left - 1) = omega arith in ap (λ m. row-width k d s m place) e
-
     pub rowing-inside : Inside fr here (width (structural.standing d s place))
-    rowing-inside = let e = one-wide in let (a, b) = r .inside in (omega arith, omega arith)
+    rowing-inside = let e = row-wide k d s left place z in let (a, b) = r .inside in (omega arith, omega arith)
 
     first-of : (rs : List Rec) × (standing d s place fr here ≡ some rs) × (mapO (λ ys. rs ++ ys) (row k d s (left - 1) (after k d s place) fr (here + width (structural.standing d s place))) ≡ some (r .others))
     first-of = bindO-some (standing d s place fr here) _ (r .others) (sym one-more ∙ r .there)
@@ -207,16 +190,12 @@ module _ {k : Parts} {d : ℕ} {s E : List ℕ} {n p : ℕ} {fr : List ℕ} {bit
       pub rowing-small : m + len ≤ length before
       rowing-small = both-small (r .done) (first-of .0) before two-room (r .wrote) wrote-first
 
-      next-given : GivenParts k d s E (left - 1) (after k d s place)
-      unfolding skip
-      next-given = record { each = λ i l. r .given .each (suc i) (omega arith) }
-
       pub rowing-next : (next there : ℕ) → next ≡ after k d s place → there ≡ here + width (structural.standing d s place) → Rowing k d s E n p fr bit before next there (m + len) (left - 1) (back len out q)
       rowing-next next there e f =
-          let w = one-wide in
+          let w = row-wide k d s left place z in
           let (a, b) = r .inside in
           rw (e, f) (record {
-            given = next-given;
+            given = given-rest z (r .given);
             inside = (omega arith, omega arith);
             done = r .done ++ first-of .0;
             others = others-of .0;
@@ -226,17 +205,7 @@ module _ {k : Parts} {d : ℕ} {s E : List ℕ} {n p : ℕ} {fr : List ℕ} {bit
             wrote = both-done (r .done) (first-of .0) before two-room (r .wrote) wrote-first;
           })
 
--- the table's record after a part is the part's end
-pub after-is : {d : ℕ} {s E : List ℕ} {p : ℕ} (k : Parts) {q : ℕ} → Stands d s E p → q ≡ after-at k E p → q ≡ after k d s p
-unfolding after
-after-is Copies g e = e
-after-is Types g e = e ∙ stands-end g
-
 -- AN INTEGER
-
--- its bytes in a record
-pub lent-length : (l : List ℕ) → 36 ≤ length l → length (lent l) ≡ 32
-lent-length l h = simp (length-take, length-drop) (omega arith)
 
 module _ {o : Option (List Rec)} {w n : ℕ} (e : o ≡ some (rec 2 0 w n ∷ [])) {out l : List ℕ} (r : Ready o out) (v : l ≡ put (bytes (rec 2 0 w 0)) out) where
   pub head-length : length l ≡ length out

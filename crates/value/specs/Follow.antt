@@ -24,8 +24,7 @@ use Rattle.types.specs.Walks.{walk}
 use Rattle.types.specs.Unique.{kind}
 use Rattle.types.specs.Unique as unique
 use Rattle.types.specs.Trees.{endOf, kids, cases, node, tree, treev}
-use Rattle.types.specs.Steps.{Given, GivenRow, given-levels, given-head, given-first, given-end, given-rest, tree-in, size-kids}
-pub use Rattle.types.specs.Steps.{count-cases}
+use Rattle.types.specs.Steps.{Given, GivenRow, given-levels, given-head, given-first, given-end, given-rest, tree-in, size-kids, count-cases}
 use Rattle.value.specs.declared.Choice.{Choice}
 use Rattle.value.specs.declared.Choice.the-variants.{Zero, One, Neither}
 use Rattle.value.specs.declared.Count.{Count}

@@ -10,10 +10,14 @@ use Prim.Native.Nat.{ℕ, _+_, _*_, _^_, _<_}
 use native.Mathlib.Omega.{arith}
 use borrow.Author.Needs.{needs}
 use Rattle.model.specs.Frames.{width}
+use Rattle.structural.specs.Laws.Forms.{level-some, next-fits, stands-inside}
 use Rattle.structural.specs.Laws.Bounds.{bound-small}
 use Rattle.told.specs.Laws.Rows.{given-copies}
-use Rattle.accept.specs.Laws.Walking.{level-some, end-there, width-there, Rowing, rowing-start, rowing-stands, rowing-inside, rowing-end, rowing-next, shares, few-given, others-given, few-hops, tag-inside, tag-fits, left-padded, right-padded, sum-left, sum-right, block-inside, block-some, block-none, block-stray}
-use Rattle.accept.proofs.Steps.{next-fits, as-product, as-sum, as-list, as-payload, record-nothing, record-bit, record-integer, record-product, record-sum, record-list, record-payload, row-few, sum-few, block-few, list-few, record-few, one-few, two, halved, listed-two, listed-more, inside-as, record-end, sum-padded, block-mul, block-run, half-mul, half-next, half-block, half-list, half-tag, two-block, row-plain, row-end-there, row-width-there, row-next, one-given, one-there, one-inside, one-last, one-fits, one-run, one-clear, one-stray}
+use Rattle.told.specs.Laws.Trees.{one-given, left-given}
+use Rattle.told.specs.Laws.Widths.{width-there}
+use Rattle.accept.specs.Laws.Sums.{shares-some}
+use Rattle.accept.specs.Laws.Walking.{Rowing, rowing-start, rowing-stands, rowing-inside, rowing-end, rowing-next, others-given, few-hops, tag-inside, tag-fits, left-padded, right-padded, sum-left, sum-right, block-inside, block-some, block-none, block-stray}
+use Rattle.accept.proofs.Steps.{as-product, as-sum, as-list, as-payload, record-nothing, record-bit, record-integer, record-product, record-sum, record-list, record-payload, row-few, sum-few, block-few, list-few, record-few, one-few, two, halved, listed-two, listed-more, inside-as, record-end, sum-padded, block-mul, block-run, half-mul, half-next, half-block, half-list, half-tag, two-block, row-plain, row-end-there, row-width-there, row-next, one-there, one-inside, one-last, one-fits, one-run, one-clear, one-stray}
 use borrow.Fn.Kinds.{In}
 use borrow.Fn.PlainCycle.{Measures, is, falls, and}
 use Rattle.accept.proofs.see_block.Reads as see-block
@@ -67,7 +71,7 @@ Inv-loop ty ends widths at level n parts frame bit all₀ place₀ here₀ left�
 abbrev μ-loop : see-row-lts.MeasureT-loop
 μ-loop ty ends widths at level n parts frame bit all₀ place₀ here₀ left₀ all place here left = left
 
-ruleset steps = (level-some, end-there, width-there, next-fits, record-nothing, record-bit, record-integer, record-product, record-sum, record-list, record-payload, record-end, row-few, sum-few, block-few, list-few, record-few, one-few, rowing-start, rowing-stands, rowing-inside, rowing-end, rowing-next, row-plain, row-end-there, row-width-there, row-next, one-given, one-there, one-last, one-fits, one-run, one-clear, one-stray, block-inside, block-some, block-none, block-stray, block-mul, block-run, listed-two, needs)
+ruleset steps = (level-some, stands-inside, width-there, next-fits, record-nothing, record-bit, record-integer, record-product, record-sum, record-list, record-payload, record-end, row-few, sum-few, block-few, list-few, record-few, one-few, rowing-start, rowing-stands, rowing-inside, rowing-end, rowing-next, row-plain, row-end-there, row-width-there, row-next, one-given, one-there, one-last, one-fits, one-run, one-clear, one-stray, block-inside, block-some, block-none, block-stray, block-mul, block-run, listed-two, needs)
 
 module _ (t : ℕ) where
   abbrev see-block-at : In 4 see-block-kinds.ps
@@ -286,7 +290,7 @@ module _ (t : ℕ) where
       let p2 = c .before .before .before .before .before .before .pre .1 .1 .1 .0 in
       let p3 = c .before .before .before .before .before .before .pre .1 .1 .1 .1 in
       let a = c .before .before .before .before .before .before .args in
-      let s = shares (c .btree-split-index .ensures) (p0 .0) (c .before .if1 .left) in
+      let s = shares-some (c .btree-split-index .ensures) (p0 .0) (c .before .if1 .left) in
       let o = s .some in
       let l = s .less in
       let u = p0 .1 in
@@ -300,7 +304,7 @@ module _ (t : ℕ) where
       let p2 = c .before .before .before .before .before .before .before .before .pre .1 .1 .1 .0 in
       let p3 = c .before .before .before .before .before .before .before .before .pre .1 .1 .1 .1 in
       let a = c .before .before .before .before .before .before .before .before .args in
-      let s = shares (c .before .before .btree-split-index .ensures) (p0 .0) (c .before .before .before .if1 .left) in
+      let s = shares-some (c .before .before .btree-split-index .ensures) (p0 .0) (c .before .before .before .if1 .left) in
       let o = s .some in
       let l = s .less in
       let u = p0 .1 in
@@ -314,7 +318,7 @@ module _ (t : ℕ) where
       let p2 = c .before .before .before .before .before .before .before .before .pre .1 .1 .1 .0 in
       let p3 = c .before .before .before .before .before .before .before .before .pre .1 .1 .1 .1 in
       let a = c .before .before .before .before .before .before .before .before .args in
-      let s = shares (c .before .before .btree-split-index .ensures) (p0 .0) (c .before .before .before .if1 .left) in
+      let s = shares-some (c .before .before .btree-split-index .ensures) (p0 .0) (c .before .before .before .if1 .left) in
       let o = s .some in
       let l = s .less in
       let u = p0 .1 in
@@ -328,7 +332,7 @@ module _ (t : ℕ) where
       let p2 = c .before .before .before .before .before .before .before .before .before .pre .1 .1 .1 .0 in
       let p3 = c .before .before .before .before .before .before .before .before .before .pre .1 .1 .1 .1 in
       let a = c .before .before .before .before .before .before .before .before .before .args in
-      let s = shares (c .before .before .before .btree-split-index .ensures) (p0 .0) (c .before .before .before .before .if1 .left) in
+      let s = shares-some (c .before .before .before .btree-split-index .ensures) (p0 .0) (c .before .before .before .before .if1 .left) in
       let o = s .some in
       let l = s .less in
       let u = p0 .1 in
@@ -343,7 +347,7 @@ module _ (t : ℕ) where
       let p2 = c .before .before .before .before .before .before .before .before .before .pre .1 .1 .1 .0 in
       let p3 = c .before .before .before .before .before .before .before .before .before .pre .1 .1 .1 .1 in
       let a = c .before .before .before .before .before .before .before .before .before .args in
-      let s = shares (c .before .before .before .btree-split-index .ensures) (p0 .0) (c .before .before .before .before .if1 .left) in
+      let s = shares-some (c .before .before .before .btree-split-index .ensures) (p0 .0) (c .before .before .before .before .if1 .left) in
       let o = s .some in
       let l = s .less in
       let u = p0 .1 in
@@ -357,7 +361,7 @@ module _ (t : ℕ) where
       let p2 = c .before .before .before .before .before .before .before .before .before .before .pre .1 .1 .1 .0 in
       let p3 = c .before .before .before .before .before .before .before .before .before .before .pre .1 .1 .1 .1 in
       let a = c .before .before .before .before .before .before .before .before .before .before .args in
-      let s = shares (c .before .before .before .before .btree-split-index .ensures) (p0 .0) (c .before .before .before .before .before .if1 .left) in
+      let s = shares-some (c .before .before .before .before .btree-split-index .ensures) (p0 .0) (c .before .before .before .before .before .if1 .left) in
       let o = s .some in
       let l = s .less in
       let u = p0 .1 in
@@ -371,7 +375,7 @@ module _ (t : ℕ) where
       let p2 = c .before .before .before .before .before .before .before .before .pre .1 .1 .1 .0 in
       let p3 = c .before .before .before .before .before .before .before .before .pre .1 .1 .1 .1 in
       let a = c .before .before .before .before .before .before .before .before .args in
-      let s = shares (c .before .before .btree-split-index .ensures) (p0 .0) (c .before .before .before .if1 .left) in
+      let s = shares-some (c .before .before .btree-split-index .ensures) (p0 .0) (c .before .before .before .if1 .left) in
       let o = s .some in
       let l = s .less in
       let u = p0 .1 in
@@ -386,11 +390,11 @@ module _ (t : ℕ) where
       let p2 = c .before .before .before .before .before .before .before .before .pre .1 .1 .1 .0 in
       let p3 = c .before .before .before .before .before .before .before .before .pre .1 .1 .1 .1 in
       let a = c .before .before .before .before .before .before .before .before .args in
-      let s = shares (c .before .before .btree-split-index .ensures) (p0 .0) (c .before .before .before .if1 .left) in
+      let s = shares-some (c .before .before .btree-split-index .ensures) (p0 .0) (c .before .before .before .if1 .left) in
       let o = s .some in
       let l = s .less in
       let u = p0 .1 in
-      (omega arith, ((omega arith, omega arith), (few-given s p1, (p2, left-padded s p1 p3))))
+      (omega arith, ((omega arith, omega arith), (left-given s p1, (p2, left-padded s p1 p3))))
 
   see-sum-returns-4 : see-sum-lts.Need-returns-4 see-sum-calls see-sum-at see-sum.Post
   see-sum-returns-4 c =
@@ -400,7 +404,7 @@ module _ (t : ℕ) where
       let p2 = c .before .before .before .before .before .before .before .before .before .pre .1 .1 .1 .0 in
       let p3 = c .before .before .before .before .before .before .before .before .before .pre .1 .1 .1 .1 in
       let a = c .before .before .before .before .before .before .before .before .before .args in
-      let s = shares (c .before .before .before .btree-split-index .ensures) (p0 .0) (c .before .before .before .before .if1 .left) in
+      let s = shares-some (c .before .before .before .btree-split-index .ensures) (p0 .0) (c .before .before .before .before .if1 .left) in
       let o = s .some in
       let l = s .less in
       let u = p0 .1 in

@@ -22,6 +22,7 @@ use Rattle.types.specs.Record.{headAt}
 use Rattle.types.specs.Heads.{Fair, FairBound}
 use Rattle.structural.specs.Forms.{most-parts, Stands, standing, balanced, listed}
 use Rattle.structural.specs.Forms as structural
+use Rattle.structural.specs.declared.Parts as structural-parts
 use Rattle.structural.specs.declared.Parts.the-variants as parts
 use Rattle.structural.specs.Laws.Forms as structural-laws
 use Rattle.structural.specs.Laws.Trees.{row-stays}
@@ -103,34 +104,47 @@ unless-none false = refl
 
 -- LOWERED TYPES
 
+same-row : (j : structural-parts.Parts) (k : Parts) (d : ℕ) (s : List ℕ) → ((q : ℕ) → structural.part j d s q ≡ standing d s q) → ((q : ℕ) → structural.after j d s q ≡ after k d s q) → (n p : ℕ) → structural.row j d s n p ≡ types-in k d s n p
+unfolding structural.row types-in
+same-row j k d s one next zero p = refl
+same-row j k d s one next (suc n) p = (λ i. one p i ∷ structural.row j d s n (next p i)) ∙ ap {B = List SType} (λ l. standing d s p ∷ l) (same-row j k d s one next n (after k d s p))
+
+module _ (d : ℕ) (s : List ℕ) (n p : ℕ) where
+  pub types-product : balanced parts.Types d s n p ≡ fold _⊗_ 𝟙 (btree n) (types-in Types d s n p)
+  unfolding balanced structural.part structural.after after
+  types-product = ap (fold _⊗_ 𝟙 (btree n)) (same-row parts.Types Types d s (λ q. refl) (λ q. refl) n p)
+
+  pub copies-product : balanced parts.Copies d s n p ≡ fold _⊗_ 𝟙 (btree n) (types-in Copies d s n p)
+  unfolding balanced structural.part structural.after after
+  copies-product = ap (fold _⊗_ 𝟙 (btree n)) (same-row parts.Copies Copies d s (λ q. refl) (λ q. refl) n p)
+
+  pub choices-sum : balanced parts.Choices d s n p ≡ fold _⊕_ 𝟙 (btree n) (types-in Types d s n p)
+  unfolding balanced structural.part structural.after after
+  choices-sum = ap (fold _⊕_ 𝟙 (btree n)) (same-row parts.Choices Types d s (λ q. refl) (λ q. refl) n p)
+
+  pub bits-product : balanced parts.Bits d s n p ≡ fold _⊗_ 𝟙 (btree n) (replicate n (𝟙 ⊕ 𝟙))
+  unfolding balanced structural.part structural.after
+  bits-product = ap (fold _⊗_ 𝟙 (btree n)) (row-stays parts.Bits d s (λ q. refl) n p)
+
+-- and the bits that they take
+pub width-bits : (n : ℕ) → width (fold _⊗_ 𝟙 (btree n) (replicate n (𝟙 ⊕ 𝟙))) ≡ n
+width-bits n = ap (λ i. width (fold _⊗_ 𝟙 (btree i) (replicate n (𝟙 ⊕ 𝟙)))) (sym (length-replicate n (𝟙 ⊕ 𝟙))) ∙ width-array n (𝟙 ⊕ 𝟙) ∙ omega arith
+
 module _ (d : ℕ) (s : List ℕ) where
-  types-are : (n p : ℕ) → structural.row parts.Types d s n p ≡ types-in Types d s n p
-  unfolding structural.row structural.part structural.after types-in after
-  types-are zero p = refl
-  types-are (suc n) p = ap {B = List SType} (λ l. standing d s p ∷ l) (types-are n (structural.ending d s p))
-
-  choices-are : (n p : ℕ) → structural.row parts.Choices d s n p ≡ types-in Types d s n p
-  unfolding structural.row structural.part structural.after types-in after
-  choices-are zero p = refl
-  choices-are (suc n) p = ap {B = List SType} (λ l. standing d s p ∷ l) (choices-are n (structural.ending d s p))
-
-  copies-are : (n p : ℕ) → structural.row parts.Copies d s n p ≡ types-in Copies d s n p
-  unfolding structural.row structural.part structural.after types-in after
-  copies-are zero p = refl
-  copies-are (suc n) p = ap {B = List SType} (λ l. standing d s p ∷ l) (copies-are n p)
-
   widths-are : (k : Parts) (n p : ℕ) → width-all (types-in k d s n p) ≡ row-width k d s n p
   unfolding types-in row-width
   widths-are k zero p = refl
   widths-are k (suc n) p = ap (λ w. width (standing d s p) + w) (widths-are k n (after k d s p))
 
-  product-wide : (k : Parts) (n p : ℕ) (t : SType) → t ≡ fold _⊗_ 𝟙 (btree n) (types-in k d s n p) → width t ≡ row-width k d s n p
+  pub product-wide : (k : Parts) (n p : ℕ) (t : SType) → t ≡ fold _⊗_ 𝟙 (btree n) (types-in k d s n p) → width t ≡ row-width k d s n p
   product-wide k n p t e =
       ap width e ∙ ap (λ m. width (fold _⊗_ 𝟙 (btree m) (types-in k d s n p))) (sym (length-types k d s n p)) ∙ width-productOf (types-in k d s n p) ∙ widths-are k n p
 
-  bits-are : (n p : ℕ) → balanced parts.Bits d s n p ≡ fold _⊗_ 𝟙 (btree n) (replicate n (𝟙 ⊕ 𝟙))
-  unfolding balanced structural.part structural.after
-  bits-are n p = ap (fold _⊗_ 𝟙 (btree n)) (row-stays parts.Bits d s (λ q. refl) n p)
+  -- n of one type
+  pub copies-wide : (n p : ℕ) → row-width Copies d s n p ≡ n * width (standing d s p)
+  unfolding row-width after
+  copies-wide zero p = omega arith
+  copies-wide (suc n) p = omega (arith, copies-wide n p)
 
 -- BY WHAT IS KNOWN OF THE RECORDS
 
@@ -195,8 +209,8 @@ module _ (d : ℕ) (s E : List ℕ) (p : ℕ) where
   unfolding seen
   bits-of n e h =
       let t : SType = fold _⊗_ 𝟙 (btree n) (replicate n (𝟙 ⊕ 𝟙)) in
-      let i : standing d s p ≡ t = e ∙ bits-are (d - 1) s n (p + 1) in
-      let w : width t ≡ n = ap (λ m. width (fold _⊗_ 𝟙 (btree m) (replicate n (𝟙 ⊕ 𝟙)))) (sym (length-replicate n (𝟙 ⊕ 𝟙))) ∙ width-array n (𝟙 ⊕ 𝟙) ∙ omega arith in
+      let i : standing d s p ≡ t = e ∙ bits-product (d - 1) s n (p + 1) in
+      let w : width t ≡ n = width-bits n in
       record {
         same = λ fr bit l.
             let k : bit + n ≤ 8 * length fr = omega (arith, ap width i) in
@@ -206,7 +220,6 @@ module _ (d : ℕ) (s E : List ℕ) (p : ℕ) where
 
 -- what is seen at a record is what its form says
 pub formed : (h : Head) (d : ℕ) (s E : List ℕ) (p : ℕ) → Stands d s E p → h ≡ headAt s p → Fair h → Formed (form-of h) d s E p
-unfolding balanced
 formed Missing d s E p g e f = nothing-of d s E p (records.formed Missing d s E p g e f .same)
 formed Faulty d s E p g e f = nothing-of d s E p (records.formed Faulty d s E p g e f .same)
 formed Never d s E p g e f = nothing-of d s E p (records.formed Never d s E p g e f .same)
@@ -221,22 +234,22 @@ formed (UInt w) d s E p g e f =
     ap (mapO length) (r .same (shape-at (fold _⊗_ 𝟙 (btree (w .0)) (replicate (w .0) (𝟙 ⊕ 𝟙))) fr bit) ∙ ap (mapO (λ bs. rec 2 0 (w .0) (of-bits bs) ∷ [])) (integer-bits fr (w .0) bit l)))
 formed Either d s E p g e f =
     let r = records.formed Either d s E p g e f in
-    sum-of d s E p 2 (mark-of Either) (r .some-choice) (r .few) (r .given) (structural-laws.formed g Either e f .same ∙ ap (fold _⊕_ 𝟙 (btree 2)) (choices-are (d - 1) s 2 (p + 1))) (r .same)
+    sum-of d s E p 2 (mark-of Either) (r .some-choice) (r .few) (r .given) (structural-laws.formed g Either e f .same ∙ choices-sum (d - 1) s 2 (p + 1)) (r .same)
 formed Opt d s E p g e f =
     let r = records.formed Opt d s E p g e f in
     list-of d s E p (bound 2) (mark-of Opt) (r .fair) (r .given) (structural-laws.formed g Opt e f .same) (r .same)
 formed (Tuple n) d s E p g e f =
     let r = records.formed (Tuple n) d s E p g e f in
-    product-of d s E p Types n (mark-of (Tuple n) n) (r .given) (structural-laws.formed g (Tuple n) e f .same ∙ ap (fold _⊗_ 𝟙 (btree n)) (types-are (d - 1) s n (p + 1))) (r .same)
+    product-of d s E p Types n (mark-of (Tuple n) n) (r .given) (structural-laws.formed g (Tuple n) e f .same ∙ types-product (d - 1) s n (p + 1)) (r .same)
 formed (Array n) d s E p g e f =
     let r = records.formed (Array n) d s E p g e f in
-    product-of d s E p Copies n (mark-of (Array n) n) (r .given) (structural-laws.formed g (Array n) e f .same ∙ ap (fold _⊗_ 𝟙 (btree n)) (copies-are (d - 1) s n (p + 1))) (r .same)
+    product-of d s E p Copies n (mark-of (Array n) n) (r .given) (structural-laws.formed g (Array n) e f .same ∙ copies-product (d - 1) s n (p + 1)) (r .same)
 formed (Listed b) d s E p g e f =
     let r = records.formed (Listed b) d s E p g e f in
     list-of d s E p b (mark-of (Listed b)) (r .fair) (r .given) (structural-laws.formed g (Listed b) e f .same) (r .same)
 formed (Variants n) d s E p g e f =
     let r = records.formed (Variants n) d s E p g e f in
-    sum-of d s E p n (mark-of (Variants n)) (r .some-choice) (r .few) (r .given) (structural-laws.formed g (Variants n) e f .same ∙ ap (fold _⊕_ 𝟙 (btree n)) (choices-are (d - 1) s n (p + 1))) (r .same)
+    sum-of d s E p n (mark-of (Variants n)) (r .some-choice) (r .few) (r .given) (structural-laws.formed g (Variants n) e f .same ∙ choices-sum (d - 1) s n (p + 1)) (r .same)
 formed (head.Payload n) d s E p g e f =
     let r = records.formed (head.Payload n) d s E p g e f in
-    payload-of d s E p n (r .given) (structural-laws.formed g (head.Payload n) e f .same ∙ ap (fold _⊗_ 𝟙 (btree n)) (types-are (d - 1) s n (p + 1))) (r .same)
+    payload-of d s E p n (r .given) (structural-laws.formed g (head.Payload n) e f .same ∙ types-product (d - 1) s n (p + 1)) (r .same)

@@ -1,21 +1,20 @@
 -- Laws of lists in a frame: a block's tag tells whether its elements stand behind it or zeros; a list is its blocks, one behind the other.
 use mathlib.Core.Path.{_≡_, refl, ap, ap₂, _∙_}
 use mathlib.Core.Bool.{Bool, true, false, _||_, or-false}
-use mathlib.Core.List.{List, [], _++_}
-use mathlib.Core.Option.{Option, some}
+use mathlib.Core.List.{List, []}
+use mathlib.Core.Option.{some}
 use Prim.Native.Nat.{ℕ, zero, suc, _+_, _-_, _*_, _^_, _≤_, _<_}
 use native.Mathlib.Omega.{arith}
 use lib.ListN.{length, replicate, length-replicate}
-use Rattle.model.specs.Options.{any, mapO, bindO}
-use Rattle.model.specs.Structural.{SType, 𝟙, SValue, left, productOf, block-type, partition-type}
+use Rattle.model.specs.Options.{any}
+use Rattle.model.specs.Structural.{SType, 𝟙, _⊗_, SValue, left, productOf, block-type, partition-type}
 use Rattle.model.specs.Balanced.{btree, fold}
-use Rattle.model.specs.Structural.{_⊗_}
 use Rattle.model.specs.Reconstruct.{as-block, as-tuple, combine}
 use Rattle.model.specs.Frames.{width}
 use Rattle.bits.specs.Bits.{bits-at}
 use Rattle.accept.specs.Forms.{shape-at, stray-at, tag-at, shapes-at, strays-at, block-at, block-stray, elements-at, list-stray}
 use Rattle.accept.specs.Laws.Bits.{unit-shape, unit-stray, pair-shape, pair-stray, left-shape, right-shape, left-stray, right-stray}
-use Rattle.accept.specs.Laws.Products.{product-shapes, product-stray}
+use Rattle.accept.specs.Laws.Products.{both-parts, product-shapes, product-stray}
 
 -- an array of n
 module _ (n : ℕ) (t : SType) (fr : List ℕ) (bit : ℕ) where
@@ -35,7 +34,7 @@ module _ (n : ℕ) (t : SType) (fr : List ℕ) (bit : ℕ) where
 
 module _ (n : ℕ) (t : SType) (fr : List ℕ) (bit : ℕ) (h : bit < 8 * length fr) where
   -- the elements of a block are none or all
-  pub block-shapes : as-block n (shape-at (block-type n t) fr bit) ≡ some (block-at n t fr bit)
+  block-shapes : as-block n (shape-at (block-type n t) fr bit) ≡ some (block-at n t fr bit)
   unfolding block-at
   block-shapes = go (tag-at fr bit) refl
     where
@@ -44,7 +43,7 @@ module _ (n : ℕ) (t : SType) (fr : List ℕ) (bit : ℕ) (h : bit < 8 * length
       go true e = ap (as-block n) (right-shape fr bit 𝟙 (all n t fr bit) h e) ∙ array-shapes n t fr (bit + 1)
 
   -- what a missing block would take must be zeros
-  pub block-strays : stray-at (block-type n t) fr bit ≡ block-stray n t fr bit
+  block-strays : stray-at (block-type n t) fr bit ≡ block-stray n t fr bit
   unfolding block-stray
   block-strays = go (tag-at fr bit) refl
     where
@@ -59,16 +58,13 @@ module _ (n : ℕ) (t : SType) (fr : List ℕ) (bit : ℕ) (h : bit < 8 * length
 
 -- LISTS
 
-both-blocks : (u v : Option (List SValue)) (xs ys : List SValue) → u ≡ some xs → v ≡ some ys → bindO u (λ us. mapO (λ vs. us ++ vs) v) ≡ some (xs ++ ys)
-both-blocks u v xs ys e f = rw (e, f) refl
-
 -- the elements of a list, block by block
 pub list-shapes : (e : ℕ) (t : SType) (fr : List ℕ) (bit : ℕ) → bit + width (partition-type e t) ≤ 8 * length fr → combine e (shape-at (partition-type e t) fr bit) ≡ some (elements-at e t fr bit)
 unfolding combine partition-type elements-at
 list-shapes zero t fr bit h = block-shapes 1 t fr bit (omega arith)
 list-shapes (suc e) t fr bit h =
     ap (combine (suc e)) (pair-shape fr bit (block-type (2 ^ suc e) t) (partition-type e t))
-    ∙ both-blocks _ _ _ _ (block-shapes (2 ^ suc e) t fr bit (omega arith)) (list-shapes e t fr (bit + width (block-type (2 ^ suc e) t)) (omega arith))
+    ∙ both-parts _ _ _ _ (block-shapes (2 ^ suc e) t fr bit (omega arith)) (list-shapes e t fr (bit + width (block-type (2 ^ suc e) t)) (omega arith))
 
 pub list-strays : (e : ℕ) (t : SType) (fr : List ℕ) (bit : ℕ) → bit + width (partition-type e t) ≤ 8 * length fr → stray-at (partition-type e t) fr bit ≡ list-stray e t fr bit
 unfolding partition-type list-stray

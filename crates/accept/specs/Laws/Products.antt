@@ -1,6 +1,6 @@
 -- Laws of products in a frame: the parts stand one behind the other, and a product strays where a part of it does; the bits of an integer are its parts.
 use mathlib.Core.Path.{_≡_, refl, sym, ap, ap₂, _∙_}
-use mathlib.Core.Bool.{Bool, true, false, _||_, or-false}
+use mathlib.Core.Bool.{Bool, true, false, _||_, or-false, or-assoc}
 use mathlib.Core.List.{List, [], _∷_, _++_}
 use mathlib.Core.Option.{Option, some}
 use Prim.Native.Nat.{ℕ, zero, suc, _+_, _*_, _≤_, _<_}
@@ -19,10 +19,6 @@ use Rattle.record.specs.Trees.{bit-row}
 use Rattle.accept.specs.Forms.{shape-at, stray-at, tag-at, shapes-at, strays-at}
 use Rattle.accept.specs.Laws.Bits.{first-bit, unit-shape, unit-stray, pair-shape, pair-stray, left-shape, right-shape, left-stray, right-stray}
 
-or-assoc : (a b c : Bool) → a || (b || c) ≡ (a || b) || c
-or-assoc true b c = refl
-or-assoc false b c = refl
-
 -- PARTS IN A ROW
 
 shapes-split : (n : ℕ) (ts : List SType) (fr : List ℕ) (bit : ℕ) → shapes-at (take n ts) fr bit ++ shapes-at (drop n ts) fr (bit + width-all (take n ts)) ≡ shapes-at ts fr bit
@@ -37,12 +33,12 @@ strays-split zero ts fr bit = ap (strays-at ts fr) (add-zero bit)
 strays-split (suc n) [] fr bit = refl
 strays-split (suc n) (t ∷ ts) fr bit =
     let e : bit + (width t + width-all (take n ts)) ≡ bit + width t + width-all (take n ts) = omega arith in
-    sym (or-assoc (stray-at t fr bit) (strays-at (take n ts) fr (bit + width t)) _)
+    or-assoc (stray-at t fr bit) (strays-at (take n ts) fr (bit + width t)) _
     ∙ ap (λ x. stray-at t fr bit || x) (ap (λ i. strays-at (take n ts) fr (bit + width t) || strays-at (drop n ts) fr i) e ∙ strays-split n ts fr (bit + width t))
 
 -- PRODUCTS
 
-both-parts : (u v : Option (List SValue)) (xs ys : List SValue) → u ≡ some xs → v ≡ some ys → bindO u (λ us. mapO (λ vs. us ++ vs) v) ≡ some (xs ++ ys)
+pub both-parts : (u v : Option (List SValue)) (xs ys : List SValue) → u ≡ some xs → v ≡ some ys → bindO u (λ us. mapO (λ vs. us ++ vs) v) ≡ some (xs ++ ys)
 both-parts u v xs ys e f = rw (e, f) refl
 
 tree-shapes : (t : BTree) (ts : List SType) (fr : List ℕ) (bit : ℕ) → length ts ≡ leaves t → unfold-tree t (shape-at (fold _⊗_ 𝟙 t ts) fr bit) ≡ some (shapes-at ts fr bit)

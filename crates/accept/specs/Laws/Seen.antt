@@ -14,6 +14,7 @@ use Rattle.model.specs.Balanced.{btree, fold}
 use Rattle.model.specs.Structural.{SType, 𝟙, _⊕_, _⊗_, SValue, productOf, partition-type, block-type}
 use Rattle.model.specs.ValueFiles.{Rec}
 use Rattle.model.specs.Frames.{width}
+use Rattle.model.specs.Laws.Options.{mapO-mapO}
 use Rattle.model.specs.Laws.Sizes.{width-array, width-block}
 use Rattle.bits.specs.Bits.{bits-at}
 use Rattle.structural.specs.Forms.{standing, ending}
@@ -22,7 +23,6 @@ use Rattle.told.specs.declared.Parts.{Parts}
 use Rattle.told.specs.declared.Parts.the-variants.{Copies, Types}
 use Rattle.told.specs.Forms.{after, skip, GivenParts, hops}
 use Rattle.record.specs.Trees.{part, row, product, sum, elements, numbered}
-use Rattle.record.specs.Laws.Maybe.{mapO-mapO}
 use Rattle.accept.specs.Forms.{shape-at, stray-at, tag-at, shapes-at, strays-at, choice-in, block-at, block-stray, elements-at, list-stray, unless, plus, seen, types-in, seen-row, seen-choice, seen-sum, seen-block, seen-blocks, seen-list}
 use Rattle.accept.specs.Laws.Products.{product-shapes, product-stray}
 use Rattle.accept.specs.Laws.Sums.{Taken, sum-taken, choice-less}
@@ -128,6 +128,10 @@ sum-seen d s E n p t fr bit o g e h =
 
 -- LISTS
 
+pub length-shapes : (ts : List SType) (fr : List ℕ) (bit : ℕ) → length (shapes-at ts fr bit) ≡ length ts
+length-shapes [] fr bit = refl
+length-shapes (t ∷ ts) fr bit = ap suc (length-shapes ts fr (bit + width t))
+
 module _ (d : ℕ) (s : List ℕ) (p : ℕ) where
   -- the records of copies
   abbrev copies : List SValue → Option ℕ
@@ -142,14 +146,10 @@ module _ (d : ℕ) (s : List ℕ) (p : ℕ) where
       ∙ sym (plus-assoc (mapO length (part d s p x)) (copies xs) (copies ys))
       ∙ ap (λ o. plus o (copies ys)) (sym (counted (part d s p x) (row Copies d s (length xs) p xs)))
 
-  types-copies : (n : ℕ) → types-in Copies d s n p ≡ replicate n (standing d s p)
+  pub types-copies : (n : ℕ) → types-in Copies d s n p ≡ replicate n (standing d s p)
   unfolding types-in after
   types-copies zero = refl
   types-copies (suc n) = ap {B = List SType} (λ l. standing d s p ∷ l) (types-copies n)
-
-  length-shapes : (ts : List SType) (fr : List ℕ) (bit : ℕ) → length (shapes-at ts fr bit) ≡ length ts
-  length-shapes [] fr bit = refl
-  length-shapes (t ∷ ts) fr bit = ap suc (length-shapes ts fr (bit + width t))
 
   copies-seen : (n : ℕ) (fr : List ℕ) (bit : ℕ) → unless (strays-at (replicate n (standing d s p)) fr bit) (copies (shapes-at (replicate n (standing d s p)) fr bit)) ≡ seen-row Copies d s n p fr bit
   copies-seen n fr bit =

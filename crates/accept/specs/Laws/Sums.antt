@@ -12,7 +12,7 @@ use Rattle.model.specs.Balanced.{BTree, leaf, fork, leaves, btree, grow, btree-
 use Rattle.model.specs.Structural.{SType, 𝟙, _⊕_, SValue}
 use Rattle.model.specs.Reconstruct.{as-enum-leaf}
 use Rattle.model.specs.Frames.{width}
-use Rattle.model.specs.Laws.Balanced.{btree-leaves, btree-fork, split-bounds, size-left, size-right}
+use Rattle.model.specs.Laws.Balanced.{Shares, shares, btree-leaves, btree-fork, split-bounds, size-left, size-right}
 use Rattle.bits.specs.Bits.{bits-at}
 use Rattle.bits.specs.Laws.Runs.{bits-at-add}
 use Rattle.accept.specs.Forms.{shape-at, stray-at, tag-at, farther, led, choice-in}
@@ -111,6 +111,10 @@ unfolding choice-in
 sum-taken n ts fr bit o h k = taken (btree n) ts fr bit (h ∙ sym (btree-leaves n o)) k
 
 -- THE TAGS, as code reads them
+
+-- the two sides of the choices, where there is more than one
+pub shares-some : {n few : ℕ} → few ≡ btree-split-index n → 1 ≤ n → (n ≡ 1 → ⊥) → Shares n few
+shares-some e l o = shares e (omega arith)
 
 module _ (fr : List ℕ) (bit : ℕ) where
   pub choice-one : choice-in 1 fr bit ≡ (0, bit)

@@ -4,7 +4,7 @@ use mathlib.Core.Bool.{Bool, true, false, not}
 use mathlib.Core.List.{List, [], _∷_}
 use mathlib.Core.Option.{Option, none, some}
 use Prim.Native.Nat.{ℕ, zero, suc, _+_, _-_, _*_, _^_, _≤_, _<_}
-use native.Mathlib.Nat.{zero-add, suc-add, suc-mul, zero-mul, two-pow-succ, one-le-pow}
+use native.Mathlib.Nat.{zero-add, suc-add, two-pow-succ, one-le-pow}
 use native.Mathlib.Numerals.{sub-one}
 use native.Mathlib.Omega.{arith}
 use lib.ListN.{length, getD, take, drop}
@@ -13,58 +13,45 @@ use Rattle.num.specs.declared.Bound.the-variants as bounds
 use Rattle.num.specs.Powers.{bound, half-bound}
 use Rattle.num.specs.Laws.{bounded, bound-power, half-bound-two, half-bound-more}
 use Rattle.model.specs.Options.{any}
-use Rattle.model.specs.Balanced.{btree, btree-split-index, fold}
+use Rattle.model.specs.Balanced.{btree, fold}
 use Rattle.model.specs.Structural.{SType, 𝟙, _⊕_}
 use Rattle.model.specs.Frames.{width}
-use Rattle.model.specs.Laws.Balanced.{split-bounds}
+use Rattle.model.specs.Laws.Balanced.{Shares}
 use Rattle.model.specs.Laws.Sizes.{fold-one, fold-step, width-partition-zero, width-partition-suc}
 use Rattle.types.specs.Heads.{FairBound}
-use Rattle.types.specs.Steps.{given-levels, given-within, given-inside}
 use Rattle.structural.specs.Forms.{Stands, standing, listed}
-use Rattle.structural.specs.Laws.Forms.{stands-end}
+use Rattle.structural.specs.Laws.Forms.{stands-inside}
 use Rattle.structural.specs.Laws.Bounds.{Power, power-of}
 use Rattle.bits.specs.Bits.{bits-at, Inside}
 use Rattle.told.specs.declared.Parts.{Parts}
 use Rattle.told.specs.declared.Parts.the-variants.{Copies, Types}
-use Rattle.told.specs.Forms.{after, skip, GivenParts, hops, Hops}
+use Rattle.told.specs.Forms.{after, skip, GivenParts, hops, Hops, after-at}
 use Rattle.told.specs.Widths.{Wide}
-use Rattle.told.specs.Laws.Trees.{given-one, given-left, given-right}
+use Rattle.told.specs.Laws.Hops.{hops-add}
+use Rattle.told.specs.Laws.Rows.{after-is}
+use Rattle.told.specs.Laws.Trees.{given-one, right-given}
 use Rattle.rebuild.specs.Forms.{most-records}
 use Rattle.accept.specs.declared.Seen.{Seen}
 use Rattle.accept.specs.declared.Seen.the-variants.{Of, Stray}
 use Rattle.accept.specs.Forms.{tag-at, choice-in, unless, plus, seen, types-in, row-width, seen-row, seen-choice, seen-sum, seen-block, seen-blocks, seen-list}
-use Rattle.told.specs.Forms.{after-at}
 use Rattle.accept.specs.Answers.{answer, count-of, both-of, Padded}
 use Rattle.accept.specs.Laws.Sums.{choice-one, choice-left, choice-right}
 use Rattle.accept.specs.Laws.Seen.{skip-hops}
-use Rattle.accept.specs.Laws.Formed.{BitsSeen}
+use Rattle.accept.specs.Laws.Formed.{BitsSeen, copies-wide}
 use Rattle.accept.specs.Laws.Answers.{both-assoc, answer-plus, none-first, none-last}
-
--- PLACES
-
-module _ {d : ℕ} {s E : List ℕ} {p : ℕ} (g : Stands d s E p) where
-  pub level-some : 1 ≤ d
-  level-some = let h = given-levels (g .given) in omega arith
-
-  pub next-record : p + 1 ≤ length s
-  next-record = let h = given-within (g .given) in omega arith
-
-  pub end-there : p < length E
-  end-there = given-inside (g .given)
-
-  pub width-there : {W : List ℕ} → Wide s E W → p < length W
-  width-there w = let h = given-within (g .given) in let l = w .long in omega arith
-
-  after-is : (k : Parts) → after-at k E p ≡ after k d s p
-  unfolding after
-  after-is Copies = refl
-  after-is Types = stands-end g
 
 -- ROWS
 
-given-rest : {k : Parts} {d : ℕ} {s E : List ℕ} {n p : ℕ} → 0 < n → GivenParts k d s E n p → GivenParts k d s E (n - 1) (after k d s p)
+-- the parts after the first
+pub given-rest : {k : Parts} {d : ℕ} {s E : List ℕ} {n p : ℕ} → 0 < n → GivenParts k d s E n p → GivenParts k d s E (n - 1) (after k d s p)
 unfolding skip
 given-rest h g = record { each = λ i l. g .each (suc i) (omega arith) }
+
+-- the bits of the first, and of those after it
+pub row-wide : (k : Parts) (d : ℕ) (s : List ℕ) (n p : ℕ) → 0 < n → row-width k d s n p ≡ width (standing d s p) + row-width k d s (n - 1) (after k d s p)
+unfolding row-width
+row-wide k d s zero p h = absurd (omega arith)
+row-wide k d s (suc n) p h = rw sub-one refl
 
 module _ (k : Parts) (d : ℕ) (s : List ℕ) (n p : ℕ) (fr : List ℕ) (bit : ℕ) where
   row-some : 0 < n → seen-row k d s n p fr bit ≡ plus (seen d s p fr bit) (seen-row k d s (n - 1) (after k d s p) fr (bit + width (standing d s p)))
@@ -78,14 +65,6 @@ module _ (k : Parts) (d : ℕ) (s : List ℕ) (n p : ℕ) (fr : List ℕ) (bit :
   row-none : n ≤ 0 → seen-row k d s n p fr bit ≡ some 0
   unfolding seen-row
   row-none h = let e : n ≡ 0 = omega arith in ap (λ n. seen-row k d s n p fr bit) e
-
-  row-wide : 0 < n → row-width k d s n p ≡ width (standing d s p) + row-width k d s (n - 1) (after k d s p)
-  unfolding row-width
-  row-wide = go n
-    where
-      go : (n : ℕ) → 0 < n → row-width k d s n p ≡ width (standing d s p) + row-width k d s (n - 1) (after k d s p)
-      go zero h = absurd (omega arith)
-      go (suc n) h = rw sub-one refl
 
 -- copies of what is only bits have a record each
 pub copies-bits : (d : ℕ) (s : List ℕ) (p : ℕ) → BitsSeen d s p → (n : ℕ) (fr : List ℕ) (bit : ℕ) → bit + row-width Copies d s n p ≤ 8 * length fr → seen-row Copies d s n p fr bit ≡ some n
@@ -108,7 +87,7 @@ module _ {k : Parts} {d : ℕ} {s E : List ℕ} {n p : ℕ} {fr : List ℕ} {bit
   rowing-stands h = given-one (r .given) h
 
   pub rowing-inside : 0 < left → Inside fr here (width (standing d s q))
-  rowing-inside h = let w = row-wide k d s left q fr here h in let i = r .inside in (omega arith, omega arith)
+  rowing-inside h = let w = row-wide k d s left q h in let i = r .inside in (omega arith, omega arith)
 
   pub rowing-end : left ≤ 0 → all ≡ answer (seen-row k d s n p fr bit)
   rowing-end h = sym (none-last all (r .small)) ∙ ap (λ o. both-of all (answer o)) (sym (row-none k d s left q fr here h)) ∙ r .same
@@ -117,8 +96,8 @@ module _ {k : Parts} {d : ℕ} {s E : List ℕ} {n p : ℕ} {fr : List ℕ} {bit
   rowing-next x y w next h u e f i j =
       let g = given-one (r .given) h in
       let a : w ≡ width (standing d s q) = i ∙ u .right d q g in
-      let b : next ≡ after k d s q = j ∙ after-is g k in
-      let l = row-wide k d s left q fr here h in
+      let b : next ≡ after k d s q = j ∙ after-is k g in
+      let l = row-wide k d s left q h in
       let o = r .inside in
       let o1 = o .0 in
       let o2 = o .1 in
@@ -188,42 +167,25 @@ module _ (d : ℕ) (s : List ℕ) where
   drop-types zero n p = ap (λ i. types-in Types d s i p) (zero-add n)
   drop-types (suc m) n p = rw (suc-add m n) (drop-types m n (after Types d s p))
 
-hops-add : (E : List ℕ) (m n p : ℕ) → hops E (m + n) p ≡ hops E n (hops E m p)
-unfolding hops
-hops-add E zero n p = ap (λ i. hops E i p) (zero-add n)
-hops-add E (suc m) n p = ap (λ i. hops E i p) (suc-add m n) ∙ hops-add E m n (getD E p 0)
-
--- the two sides of n choices
-pub record Shares (n few : ℕ) : Type 0 where
-  pub some : 1 ≤ few
-  pub less : few < n
-  pub two : 2 ≤ n
-  pub index : few ≡ btree-split-index n
-
-pub shares : {n few : ℕ} → few ≡ btree-split-index n → 1 ≤ n → (n ≡ 1 → ⊥) → Shares n few
-shares {n} e z o = let b = split-bounds n (omega arith) in record { some = omega arith; less = omega arith; two = omega arith; index = e }
-
 module _ {d : ℕ} {s E : List ℕ} {n few p : ℕ} (h : Shares n few) (g : GivenParts Types d s E n p) where
-  pub few-given : GivenParts Types d s E few p
-  few-given = let l = h .less in given-left g few (omega arith)
-
   right-place : hops E few p ≡ skip Types d s few p
   right-place = sym (skip-hops d s E n few p (h .less) g)
 
   pub others-given : {q : ℕ} → q ≡ hops E few p → GivenParts Types d s E (n - few) q
-  others-given e = let l = h .less in rw (e ∙ right-place) (given-right g few (omega arith))
+  others-given e = right-given h g (e ∙ right-place)
 
   pub few-hops : Hops E few p
-  few-hops = let l = h .less in record { each = λ i m. rw (← skip-hops d s E n i p (omega arith) g) (end-there (g .each i (omega arith))) }
+  few-hops = let l = h .less in record { each = λ i m. rw (← skip-hops d s E n i p (omega arith) g) (stands-inside (g .each i (omega arith))) }
 
   module _ {fr : List ℕ} {bit end : ℕ} (a : Padded d s n p fr bit end) where
     -- the type of the sum is the sum of its two sides
     split-type : fold _⊕_ 𝟙 (btree n) (types-in Types d s n p) ≡ fold _⊕_ 𝟙 (btree few) (types-in Types d s few p) ⊕ fold _⊕_ 𝟙 (btree (n - few)) (types-in Types d s (n - few) (hops E few p))
     split-type =
         let l = h .less in
+        let m = h .some in
         let e : n ≡ few + (n - few) = omega arith in
-        fold-step _⊕_ 𝟙 n (h .two) (types-in Types d s n p)
-        ∙ ap (λ m. fold _⊕_ 𝟙 (btree m) (take m (types-in Types d s n p)) ⊕ fold _⊕_ 𝟙 (btree (n - m)) (drop m (types-in Types d s n p))) (sym (h .index))
+        fold-step _⊕_ 𝟙 n (omega arith) (types-in Types d s n p)
+        ∙ ap (λ m. fold _⊕_ 𝟙 (btree m) (take m (types-in Types d s n p)) ⊕ fold _⊕_ 𝟙 (btree (n - m)) (drop m (types-in Types d s n p))) (sym (h .split))
         ∙ ap₂ (λ x y. fold _⊕_ 𝟙 (btree few) x ⊕ fold _⊕_ 𝟙 (btree (n - few)) y)
         (ap (λ i. take few (types-in Types d s i p)) e ∙ take-types d s few (n - few) p)
         (ap (λ i. drop few (types-in Types d s i p)) e ∙ drop-types d s few (n - few) p ∙ ap (types-in Types d s (n - few)) (sym right-place))
@@ -243,23 +205,20 @@ module _ {d : ℕ} {s E : List ℕ} {n few p : ℕ} (h : Shares n few) (g : Give
 module _ (d : ℕ) (s E : List ℕ) {n few : ℕ} (p : ℕ) (fr : List ℕ) (bit end : ℕ) (h : Shares n few) (z : Bool) (t : z ≡ tag-at fr bit) (x : Seen) where
   pub sum-left : z ≡ false → x ≡ answer (seen-sum d s E few p fr (bit + 1) end) → x ≡ answer (seen-sum d s E n p fr bit end)
   unfolding seen-sum
-  sum-left e i = i ∙ ap (λ (y : ℕ × ℕ). answer (seen-choice d s (hops E (y .0) p) fr (y .1) end)) (sym (choice-left fr bit n few (h .index) (h .two) (sym t ∙ e)))
+  sum-left e i = let l = h .less in let m = h .some in i ∙ ap (λ (y : ℕ × ℕ). answer (seen-choice d s (hops E (y .0) p) fr (y .1) end)) (sym (choice-left fr bit n few (h .split) (omega arith) (sym t ∙ e)))
 
   pub sum-right : (q : ℕ) → q ≡ hops E few p → z ≡ true → x ≡ answer (seen-sum d s E (n - few) q fr (bit + 1) end) → x ≡ answer (seen-sum d s E n p fr bit end)
   unfolding seen-sum
   sum-right q j e i =
+      let l = h .less in
+      let m = h .some in
       let y = choice-in (n - few) fr (bit + 1) in
       i
       ∙ ap (λ q. answer (seen-choice d s (hops E (y .0) q) fr (y .1) end)) j
       ∙ ap (λ q. answer (seen-choice d s q fr (y .1) end)) (sym (hops-add E few (y .0) p))
-      ∙ ap (λ (y : ℕ × ℕ). answer (seen-choice d s (hops E (y .0) p) fr (y .1) end)) (sym (choice-right fr bit n few (h .index) (h .two) (sym t ∙ e)))
+      ∙ ap (λ (y : ℕ × ℕ). answer (seen-choice d s (hops E (y .0) p) fr (y .1) end)) (sym (choice-right fr bit n few (h .split) (omega arith) (sym t ∙ e)))
 
 -- LISTS
-
-copies-wide : (d : ℕ) (s : List ℕ) (n p : ℕ) → row-width Copies d s n p ≡ n * width (standing d s p)
-unfolding row-width after
-copies-wide d s zero p = sym (zero-mul (width (standing d s p)))
-copies-wide d s (suc n) p = ap (λ w. width (standing d s p) + w) (copies-wide d s n p) ∙ omega (arith, suc-mul n (width (standing d s p)))
 
 pub block-inside : (d : ℕ) (s : List ℕ) (n p : ℕ) (fr : List ℕ) (bit : ℕ) → Inside fr bit (1 + n * width (standing d s p)) → Inside fr (bit + 1) (row-width Copies d s n p)
 block-inside d s n p fr bit i = let e = copies-wide d s n p in let a = i .0 in let b = i .1 in (omega arith, omega arith)

@@ -1,6 +1,6 @@
 -- The whole frame: what the walk and the tests of length and tail answer is what the model's `unframe` says (rows 11 and 12).
 use mathlib.Core.Path.{_≡_, refl, sym, ap, _∙_}
-use mathlib.Core.Bool.{Bool, true, false, not, _||_}
+use mathlib.Core.Bool.{Bool, true, false, not, _||_, Bool·not-not}
 use mathlib.Core.List.{List}
 use mathlib.Core.Option.{Option, none, some}
 use Prim.Native.Nat.{ℕ, _+_, _-_, _*_, _/_, _≤_, _<_}
@@ -23,6 +23,7 @@ use Rattle.model.specs.ShapeFiles.{shape-file}
 use Rattle.model.specs.Reconstruct.{reconstruct}
 use Rattle.model.specs.ValueFiles.{encode}
 use Rattle.model.specs.Frames.{width, from-bits, padding, unframe}
+use Rattle.model.specs.Laws.Options.{mapO-mapO}
 use Rattle.model.specs.Laws.Lowering.{small, lowers-not-large}
 use Rattle.model.specs.Laws.Bytes.{length-bits-of}
 use Rattle.model.specs.Laws.Frames.{from-bits-belongs}
@@ -36,7 +37,7 @@ use Rattle.structural.specs.Laws.Forms.{stands, standing-is}
 use Rattle.bits.specs.Bits.{bits-at, Inside}
 use Rattle.record.specs.Trees.{value-in, part}
 use Rattle.told.specs.Widths.{Wide}
-use Rattle.record.specs.Laws.Maybe.{mapO-mapO}
+use Rattle.told.specs.Laws.Widths.{width-there}
 use Rattle.record.specs.Laws.Products.{part-is}
 use Rattle.rebuild.specs.Forms.{most-records}
 use Rattle.rebuild.specs.Laws.Few.{few-records}
@@ -48,7 +49,6 @@ use Rattle.accept.specs.declared.Accepted.the-variants.{Records, Refused
 use Rattle.accept.specs.Forms.{place, shape-at, stray-at, unless, seen}
 use Rattle.accept.specs.Answers.{cut, answer, count-of, Lowered, accepted, outcome-of}
 use Rattle.accept.specs.Laws.Bits.{any-both}
-use Rattle.accept.specs.Laws.Walking.{width-there}
 
 -- ROWS
 
@@ -97,10 +97,6 @@ module _ (t : Ty) (fr : List ℕ) (n : length fr ≡ bytes-for (width (lower t))
       go false true o e = absurd (let z : _≡_ {A = ℕ} 0 1 = cc in omega arith)
       go false false none e = refl
       go false false (some v) e = refl
-
-twice : (x : Bool) → not (not x) ≡ x
-twice true = refl
-twice false = refl
 
 -- THE FILE
 
@@ -185,7 +181,7 @@ module _ {s E W : List ℕ} (g : Given 32 false s E 0) (u : Wide s E W) where
             c ∙ ap (λ w. not (any (bits-at fr w (n * 8 - w)))) whole-width ∙ ap (λ l. not (any l)) (take-all (n * 8 - w) (drop w (bits-of fr)) i)
 
         tail-was : (x : Bool) → not z ≡ x → tail (typeOf s) fr same-length ≡ x
-        tail-was x k = sym (twice (tail (typeOf s) fr same-length)) ∙ ap not (sym tail-is) ∙ k
+        tail-was x k = sym (Bool·not-not (tail (typeOf s) fr same-length)) ∙ ap not (sym tail-is) ∙ k
 
         pub stray-tail : not z ≡ true → outcome-of (Refused StrayBit) ≡ accepted (typeOf s) fr
         stray-tail k = tail-stray (typeOf s) fr same-length (tail-was true k)

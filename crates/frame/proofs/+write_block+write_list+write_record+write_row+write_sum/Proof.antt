@@ -19,7 +19,8 @@ use Rattle.told.specs.Laws.Rows.{given-copies}
 use Rattle.frame.specs.Laws.Lists.{share-all}
 use Rattle.frame.specs.Laws.Writing.{fitted-as, framed-as}
 use Rattle.frame.specs.Laws.Forms.{BitsFramed, RowFramed, SumFramed, ListFramed, readable, as-bits, as-product, product-there, as-sum, as-list, as-payload}
-use Rattle.frame.proofs.Steps.{inside-widths, value-fits, record-done, frame-end, bits-inside, bits-done, Going, going-start, going-stands, going-fitted, going-next, going-end, as-table, choice, sum-tags, sum-record, sum-end, sum-zeros, sum-done, empty-here, empty-zeros, empty-done, full-here, full-row, full-done, Half, half, half-first, half-rest, half-done, one-share, one-block}
+use Rattle.told.specs.Laws.Widths.{width-there}
+use Rattle.frame.proofs.Steps.{value-fits, record-done, frame-end, bits-inside, bits-done, Going, going-start, going-stands, going-fitted, going-next, going-end, as-table, choice, sum-tags, sum-record, sum-end, sum-zeros, sum-done, empty-here, empty-zeros, empty-done, full-here, full-row, full-done, Half, half, half-first, half-rest, half-done, one-share, one-block}
 use Rattle.frame.proofs.write_block.Reads as write-block
 use Rattle.frame.proofs.write_block.Kinds as write-block-kinds
 use Rattle.frame.proofs.+write_block+write_list+write_record+write_row+write_sum.Lts-write_block as write-block-lts
@@ -49,7 +50,7 @@ use Rattle.types.proofs.head_at.Reads as head-at-reads
 use Rattle.frame.proofs.+write_block+write_list+write_record+write_row+write_sum.{statement}
 use Rattle.frame.proofs.+write_block+write_list+write_record+write_row+write_sum.Tie.{close}
 
-ruleset steps = (level-some, stands-inside, inside-widths, next-fits, value-fits, needs)
+ruleset steps = (level-some, stands-inside, width-there, next-fits, value-fits, needs)
 
 abbrev μ-write-block : Measures 5 write-block-kinds.ps ℕ
 μ-write-block κs a = a .1 .1 .1 .1 .0 * 2 ^ 17 + 2
@@ -312,13 +313,13 @@ module _ (t : ℕ) where
   write-row-mul-here : write-row-lts.Need-mul-here write-row-calls write-row-at write-row.Post inv measure
   write-row-mul-here c =
       let g = going-stands (c .before .before .before .before .loop-test .taken) (c .before .before .before .before .before .loop .inv) in
-      let l = inside-widths g (c .before .before .before .before .before .before .before .before .before .before .before .pre .1 .1 .0) in
+      let l = width-there g (c .before .before .before .before .before .before .before .before .before .before .before .pre .1 .1 .0) in
       search steps
 
   write-row-shared-slice-read-here : write-row-lts.Need-shared-slice-read-here write-row-calls write-row-at write-row.Post inv measure
   write-row-shared-slice-read-here c =
       let g = going-stands (c .before .before .before .before .before .loop-test .taken) (c .before .before .before .before .before .before .loop .inv) in
-      let l = inside-widths g (c .before .before .before .before .before .before .before .before .before .before .before .before .pre .1 .1 .0) in
+      let l = width-there g (c .before .before .before .before .before .before .before .before .before .before .before .before .pre .1 .1 .0) in
       search steps
 
   write-row-add-here : write-row-lts.Need-add-here write-row-calls write-row-at write-row.Post inv measure

@@ -3,12 +3,12 @@ use native.Mathlib.Omega.{arith}
 use borrow.Author.Needs.{needs}
 use Rattle.structural.specs.Laws.Forms.{stands}
 use Rattle.frame.specs.Laws.Files.{file-sizes, file-fitted, file-zeros, file-done}
-use Rattle.frame.proofs.Steps.{inside-widths}
+use Rattle.told.specs.Laws.Widths.{width-there}
 use Rattle.frame.proofs.write_frame.Statement.{statement}
 use Rattle.frame.proofs.write_frame.Tie as tie
 
 shared-slice-read-width : tie.Need-shared-slice-read-width
-shared-slice-read-width c = let g = c .before .before .before .before .before .before .pre in inside-widths (stands (g .0)) (g .1 .0)
+shared-slice-read-width c = let g = c .before .before .before .before .before .before .pre in width-there (stands (g .0)) (g .1 .0)
 
 add-len : tie.Need-add-len
 add-len c = let g = c .before .before .before .before .before .before .pre in let l = file-sizes _ (stands (g .0)) (g .1 .0) (g .1 .1) .0 in omega arith

@@ -1,81 +1,47 @@
--- `niegluk::read_frame` meets its contract. Rows 1 to 7 and the table come from `tabulate`, rows 11 and 12 and the number of the value's records from `accept`,
--- so the entry's own test is row 17, and where it passes there is room for the writer. Each answer is one law of `Unframes`. Assumes nothing.
-use native.Mathlib.Omega.{arith}
-use borrow.Author.Needs.{needs}
-use Rattle.niegluk.proofs.read_frame.Statement.{statement}
-use Rattle.niegluk.proofs.read_frame.Tie as tie
-use Rattle.delivery.specs.Lowers.{lower-given}
-use Rattle.delivery.specs.Frames.{frame-wide}
-use Rattle.delivery.specs.Unframes.{unframe-refused, unframe-lowers, unframe-bad-frame, unframe-fits, unframe-no-room, unframe-inside, unframe-ready, unframe-done}
+-- `niegluk::read_frame` meets its contract: a walk of its MIR, by hand, since it owns a table of structs and lends it. The walk is `entries`' `Walk`, at the operation that it calls, which ensures what the entry does.
+-- Assumes nothing.
+use mathlib.Core.Path.{_≡_}
+use mathlib.Core.Bool.{true}
+use contract.Running.{givenOf, tables, tablesOf}
+use denote.Triple.Spec.{tripleOf}
+use denote.Triple.Table.{entered, cited}
+use denote.Enum.Laws as EL
+use Rattle.model.specs.Frames.{after}
+use Rattle.model.specs.Operations.{unframed, delivered}
+use Rattle.reply.specs.Numbers.{numberOf, lengthOf}
+use Rattle.reply.proofs.Reply as S
+use Rattle.reply.proofs.Reply.Laws as S′
+use Rattle.entries.specs.Answers.{TypeRead}
+use Rattle.entries.proofs.Reading.{ReadType}
+use Rattle.entries.proofs.Walk.{Form, Operates, meets}
+use Rattle.entries.proofs.read_type.Symbol as read-def
+use Rattle.entries.proofs.read_type.Symbol.{name as #entries·read-type}
+use Rattle.entries.proofs.read_type.Met as read-thm
+use Rattle.operations.proofs.read_frame.Symbol as op-def
+use Rattle.operations.proofs.read_frame.Symbol.{name as #operations·read-frame}
+use Rattle.operations.proofs.read_frame.Met as op-thm
+use Rattle.niegluk.proofs.read_frame.Key.{name as #niegluk·read-frame}
+use Rattle.niegluk.proofs.read_frame as f
+use Rattle.niegluk.proofs.read_frame.Statement as stated
+use Rattle.niegluk.proofs.read_frame.Code as code
 
-given : tie.Need-accept-requires
-given c κs =
-    let ok = c .before .before .enum-told .given .1 in
-    let table = c .before .before .before .before .before .before .before .tabulate .ensures in
-    (lower-given table ok, (frame-wide table ok (search needs), unframe-lowers table ok))
+abbrev form : Form
+form = record {
+  lowers = true;
+  Result = S.the-row;
+  mir = S′.mir;
+  typed = λ 𝓤 H A W r u is. EL.lawful S.the-type S′.the-laws 𝓤 H A W tt .typed r _ is .0;
+  Needs = λ s f o. Unit {0};
+  Asks = λ s r C f o. TypeRead true s r C;
+  asks = λ s f o r C n e. e;
+  Answer = λ s f o o′ r. (numberOf r, lengthOf r, o′) ≡ delivered (unframed after s f) o;
+}
 
-fits : tie.Need-mul-len
-fits c =
-    let count = c .before .n .given .1 in
-    let answer = c .before .before .before .accept .ensures in
-    let ok = c .before .before .before .before .before .before .enum-told .given .1 in
-    let table = c .before .before .before .before .before .before .before .before .before .before .before .tabulate .ensures in
-    unframe-fits table ok _ _ answer count (search needs)
-
-no-room : tie.Need-returns
-no-room c =
-    let count = c .before .before .n .given .1 in
-    let answer = c .before .before .before .before .accept .ensures in
-    let ok = c .before .before .before .before .before .before .before .enum-told .given .1 in
-    let table = c .before .before .before .before .before .before .before .before .before .before .before .before .tabulate .ensures in
-    let short = c .if1 .taken in
-    unframe-no-room table ok _ _ answer count (search needs) (omega arith)
-
-room : tie.Need-write-value-requires
-room c κs =
-    let count = c .before .before .before .before .before .n .given .1 in
-    let answer = c .before .before .before .before .before .before .before .accept .ensures in
-    let ok = c .before .before .before .before .before .before .before .before .before .before .enum-told .given .1 in
-    let table = c .before .before .before .before .before .before .before .before .before .before .before .before .before .before .before .tabulate .ensures in
-    let enough = c .before .before .before .if1 .left in
-    (lower-given table ok, (frame-wide table ok (search needs), (unframe-inside table ok _ _ answer count (search needs), unframe-ready table ok _ _ answer count (search needs) _ (omega arith))))
-
-bad-frame : tie.Need-returns-3
-bad-frame c =
-    let ok = c .before .before .before .before .before .before .enum-told .given .1 in
-    let table = c .before .before .before .before .before .before .before .before .before .before .before .tabulate .ensures in
-    unframe-bad-frame table ok _ _ (c .before .before .before .accept .ensures) (c .before .x2 .given .1)
-
-result : tie.Need-returns-4
-result c =
-    let count = c .before .before .before .before .before .before .before .before .n .given .1 in
-    let answer = c .before .before .before .before .before .before .before .before .before .before .accept .ensures in
-    let ok = c .before .before .before .before .before .before .before .before .before .before .before .before .before .enum-told .given .1 in
-    let table = c .before .before .before .before .before .before .before .before .before .before .before .before .before .before .before .before .before .before .tabulate .ensures in
-    let enough = c .before .before .before .before .before .before .if1 .left in
-    unframe-done table ok _ _ answer count (search needs) (omega arith) (c .before .before .write-value .ensures)
-
-pub read-frame-spec : {M : Type 1} → statement M
-read-frame-spec =
-    tie.close
-    (tie.spec
-    (λ c. search needs)
-    (λ c. search needs)
-    (λ c. search needs)
-    (λ c κs. search needs)
-    (λ c. search needs)
-    (λ c. search needs)
-    (λ c. search needs)
-    (λ c. search needs)
-    given
-    (λ c. search needs)
-    (λ c. search needs)
-    fits
-    no-room
-    (λ c. search needs)
-    (λ c. search needs)
-    room
-    (λ c. search (unframe-refused, needs))
-    bad-frame
-    (λ c. search needs)
-    result)
+pub read-frame-spec : {M : Type 1} → stated.statement M
+unfolding code.routine tablesOf
+read-frame-spec 𝓤 H 𝓜 𝓖 𝓡 =
+    entered 𝓤 H (tripleOf 𝓤 H (𝓖 .A) f.signature (f.spec 𝓤 H (𝓖 .A) (𝓜 .mem) (𝓡 .run)))
+    (tables 𝓤 H 𝓜 𝓡 code.env .C) (tables 𝓤 H 𝓜 𝓡 code.env .Λ) #niegluk·read-frame code.function (code.unfolded 𝓤 H 𝓜 𝓡)
+    (meets 𝓤 H (𝓖 .A) (givenOf 𝓤 H 𝓜 𝓖) (𝓜 .mem) (𝓡 .run) form #entries·read-type #operations·read-frame (λ s f o. tt) (tablesOf 𝓤 H 𝓜 (tables 𝓤 H 𝓜 𝓡 code.env))
+    (cited 𝓤 H (ReadType 𝓤 H (𝓖 .A) (𝓜 .mem) (𝓡 .run)) 𝓜 𝓡 code.env #entries·read-type read-def.routine code.calls-entries·read-type (read-thm.met 𝓤 H 𝓜 𝓖 𝓡))
+    (cited 𝓤 H (Operates form 𝓤 H (𝓖 .A)) 𝓜 𝓡 code.env #operations·read-frame op-def.routine code.calls-operations·read-frame (op-thm.met 𝓤 H 𝓜 𝓖 𝓡)))

@@ -1,100 +1,46 @@
--- `niegluk::reconstruct` meets its contract. Rows 1 to 5 and the table of ends come from `check_type`, rows 8 and 9 from `check_shape`, row 10 and the
--- value file's length from `value_records`, so the entry's own test is row 17, and where it passes there is room for the writer.
--- Each answer is one law of `Reconstructs`. Assumes nothing.
-use native.Mathlib.Omega.{arith}
-use borrow.Author.Needs.{needs}
-use Rattle.niegluk.proofs.reconstruct.Statement.{statement}
-use Rattle.niegluk.proofs.reconstruct.Tie as tie
-use Rattle.delivery.specs.Reconstructs.{rebuild-bad-type, rebuild-given, rebuild-bad-shape, rebuild-short, rebuild-none, rebuild-fits, rebuild-no-room, rebuild-ready, rebuild-done}
+-- `niegluk::reconstruct` meets its contract: a walk of its MIR, by hand, since it owns a table of structs and lends it. The walk is `entries`' `Walk`, at the operation that it calls, which ensures what the entry does.
+-- Assumes nothing.
+use mathlib.Core.Path.{_≡_}
+use mathlib.Core.Bool.{false}
+use contract.Running.{givenOf, tables, tablesOf}
+use denote.Triple.Spec.{tripleOf}
+use denote.Triple.Table.{entered, cited}
+use denote.Enum.Laws as EL
+use Rattle.model.specs.Operations.{reconstructed, delivered}
+use Rattle.reply.specs.Numbers.{numberOf, lengthOf}
+use Rattle.reply.proofs.Reply as S
+use Rattle.reply.proofs.Reply.Laws as S′
+use Rattle.entries.specs.Answers.{TypeRead}
+use Rattle.entries.proofs.Reading.{ReadType}
+use Rattle.entries.proofs.Walk.{Form, Operates, meets}
+use Rattle.entries.proofs.read_type.Symbol as read-def
+use Rattle.entries.proofs.read_type.Symbol.{name as #entries·read-type}
+use Rattle.entries.proofs.read_type.Met as read-thm
+use Rattle.operations.proofs.reconstruct.Symbol as op-def
+use Rattle.operations.proofs.reconstruct.Symbol.{name as #operations·reconstruct}
+use Rattle.operations.proofs.reconstruct.Met as op-thm
+use Rattle.niegluk.proofs.reconstruct.Key.{name as #niegluk·reconstruct}
+use Rattle.niegluk.proofs.reconstruct as f
+use Rattle.niegluk.proofs.reconstruct.Statement as stated
+use Rattle.niegluk.proofs.reconstruct.Code as code
 
-given : tie.Need-value-records-requires
-given c κs =
-    let whole = c .before .enum-told2 .given .1 in
-    let shape = c .before .before .before .check-shape .ensures in
-    let ok = c .before .before .before .before .enum-told .given .1 in
-    let type = c .before .before .before .before .before .before .before .check-type .ensures in
-    (rebuild-given type ok, rebuild-short type ok _ shape whole)
+abbrev form : Form
+form = record {
+  lowers = false;
+  Result = S.the-row;
+  mir = S′.mir;
+  typed = λ 𝓤 H A W r u is. EL.lawful S.the-type S′.the-laws 𝓤 H A W tt .typed r _ is .0;
+  Needs = λ s f o. Unit {0};
+  Asks = λ s r C f o. TypeRead false s r C;
+  asks = λ s f o r C n e. e;
+  Answer = λ s f o o′ r. (numberOf r, lengthOf r, o′) ≡ delivered (reconstructed s f) o;
+}
 
-fits : tie.Need-mul-if1
-fits c =
-    let count = c .before .n .given .1 in
-    let records = c .before .before .before .value-records .ensures in
-    let whole = c .before .before .before .before .before .enum-told2 .given .1 in
-    let shape = c .before .before .before .before .before .before .before .check-shape .ensures in
-    let ok = c .before .before .before .before .before .before .before .before .enum-told .given .1 in
-    let type = c .before .before .before .before .before .before .before .before .before .before .before .check-type .ensures in
-    rebuild-fits type ok _ shape whole records count
-
-no-room : tie.Need-returns
-no-room c =
-    let count = c .before .before .n .given .1 in
-    let records = c .before .before .before .before .value-records .ensures in
-    let whole = c .before .before .before .before .before .before .enum-told2 .given .1 in
-    let shape = c .before .before .before .before .before .before .before .before .check-shape .ensures in
-    let ok = c .before .before .before .before .before .before .before .before .before .enum-told .given .1 in
-    let type = c .before .before .before .before .before .before .before .before .before .before .before .before .check-type .ensures in
-    let short = c .if1 .taken in
-    rebuild-no-room type ok _ shape whole records count (omega arith)
-
-room : tie.Need-write-value-requires
-room c κs =
-    let count = c .before .before .before .before .n .given .1 in
-    let records = c .before .before .before .before .before .before .value-records .ensures in
-    let whole = c .before .before .before .before .before .before .before .before .enum-told2 .given .1 in
-    let shape = c .before .before .before .before .before .before .before .before .before .before .check-shape .ensures in
-    let ok = c .before .before .before .before .before .before .before .before .before .before .before .enum-told .given .1 in
-    let type = c .before .before .before .before .before .before .before .before .before .before .before .before .before .before .check-type .ensures in
-    let enough = c .before .before .if1 .left in
-    (rebuild-given type ok, rebuild-ready type ok _ shape whole records count _ (omega arith))
-
-bad-shape : tie.Need-returns-3
-bad-shape c =
-    let shape = c .before .before .before .check-shape .ensures in
-    let ok = c .before .before .before .before .enum-told .given .1 in
-    let type = c .before .before .before .before .before .before .before .check-type .ensures in
-    rebuild-bad-shape type ok _ shape (c .before .x2 .given .1)
-
-none : tie.Need-returns-4
-none c =
-    let records = c .before .before .value-records .ensures in
-    let whole = c .before .before .before .before .enum-told2 .given .1 in
-    let shape = c .before .before .before .before .before .before .check-shape .ensures in
-    let ok = c .before .before .before .before .before .before .before .enum-told .given .1 in
-    let type = c .before .before .before .before .before .before .before .before .before .before .check-type .ensures in
-    rebuild-none type ok _ shape whole records (c .enum-told3 .given .1)
-
-result : tie.Need-returns-5
-result c =
-    let count = c .before .before .before .before .before .before .before .n .given .1 in
-    let records = c .before .before .before .before .before .before .before .before .before .value-records .ensures in
-    let whole = c .before .before .before .before .before .before .before .before .before .before .before .enum-told2 .given .1 in
-    let shape = c .before .before .before .before .before .before .before .before .before .before .before .before .before .check-shape .ensures in
-    let ok = c .before .before .before .before .before .before .before .before .before .before .before .before .before .before .enum-told .given .1 in
-    let type = c .before .before .before .before .before .before .before .before .before .before .before .before .before .before .before .before .before .check-type .ensures in
-    let enough = c .before .before .before .before .before .if1 .left in
-    rebuild-done type ok _ shape whole records count (omega arith) (c .before .before .write-value .ensures)
-
-pub reconstruct-spec : {M : Type 1} → statement M
-reconstruct-spec =
-    tie.close
-    (tie.spec
-    (λ c. search needs)
-    (λ c κs. search needs)
-    (λ c. search needs)
-    (λ c. search needs)
-    (λ c κs. search needs)
-    (λ c. search needs)
-    (λ c. search needs)
-    (λ c. search needs)
-    given
-    (λ c. search needs)
-    (λ c. search needs)
-    fits
-    no-room
-    (λ c. search needs)
-    room
-    (λ c. search (rebuild-bad-type, needs))
-    bad-shape
-    none
-    (λ c. search needs)
-    result)
+pub reconstruct-spec : {M : Type 1} → stated.statement M
+unfolding code.routine tablesOf
+reconstruct-spec 𝓤 H 𝓜 𝓖 𝓡 =
+    entered 𝓤 H (tripleOf 𝓤 H (𝓖 .A) f.signature (f.spec 𝓤 H (𝓖 .A) (𝓜 .mem) (𝓡 .run)))
+    (tables 𝓤 H 𝓜 𝓡 code.env .C) (tables 𝓤 H 𝓜 𝓡 code.env .Λ) #niegluk·reconstruct code.function (code.unfolded 𝓤 H 𝓜 𝓡)
+    (meets 𝓤 H (𝓖 .A) (givenOf 𝓤 H 𝓜 𝓖) (𝓜 .mem) (𝓡 .run) form #entries·read-type #operations·reconstruct (λ s f o. tt) (tablesOf 𝓤 H 𝓜 (tables 𝓤 H 𝓜 𝓡 code.env))
+    (cited 𝓤 H (ReadType 𝓤 H (𝓖 .A) (𝓜 .mem) (𝓡 .run)) 𝓜 𝓡 code.env #entries·read-type read-def.routine code.calls-entries·read-type (read-thm.met 𝓤 H 𝓜 𝓖 𝓡))
+    (cited 𝓤 H (Operates form 𝓤 H (𝓖 .A)) 𝓜 𝓡 code.env #operations·reconstruct op-def.routine code.calls-operations·reconstruct (op-thm.met 𝓤 H 𝓜 𝓖 𝓡)))

@@ -1,65 +1,47 @@
--- `niegluk::write_frame` meets its contract. Rows 1 to 7 and the table come from `tabulate`, rows 15 and 16 from `check_file`, and the frame's length is that
--- of the table's first width, so the entry's own test is row 17, and where it passes there is room for the writer. Each answer is one law of `Frames`. Assumes nothing.
-use native.Mathlib.Omega.{arith}
-use borrow.Author.Needs.{needs}
-use Rattle.niegluk.proofs.write_frame.Statement.{statement}
-use Rattle.niegluk.proofs.write_frame.Tie as tie
-use Rattle.delivery.specs.Lowers.{lower-given}
-use Rattle.delivery.specs.Frames.{frame-refused, frame-bad-value, frame-wide, width-fits, frame-no-room, frame-ready, frame-done}
+-- `niegluk::write_frame` meets its contract: a walk of its MIR, by hand, since it owns a table of structs and lends it. The walk is `entries`' `Walk`, at the operation that it calls, which ensures what the entry does.
+-- Assumes nothing.
+use mathlib.Core.Path.{_≡_}
+use mathlib.Core.Bool.{true}
+use contract.Running.{givenOf, tables, tablesOf}
+use denote.Triple.Spec.{tripleOf}
+use denote.Triple.Table.{entered, cited}
+use denote.Enum.Laws as EL
+use Rattle.model.specs.Frames.{after}
+use Rattle.model.specs.Operations.{framed, delivered}
+use Rattle.reply.specs.Numbers.{numberOf, lengthOf}
+use Rattle.reply.proofs.Reply as S
+use Rattle.reply.proofs.Reply.Laws as S′
+use Rattle.entries.specs.Answers.{TypeRead}
+use Rattle.entries.proofs.Reading.{ReadType}
+use Rattle.entries.proofs.Walk.{Form, Operates, meets}
+use Rattle.entries.proofs.read_type.Symbol as read-def
+use Rattle.entries.proofs.read_type.Symbol.{name as #entries·read-type}
+use Rattle.entries.proofs.read_type.Met as read-thm
+use Rattle.operations.proofs.write_frame.Symbol as op-def
+use Rattle.operations.proofs.write_frame.Symbol.{name as #operations·write-frame}
+use Rattle.operations.proofs.write_frame.Met as op-thm
+use Rattle.niegluk.proofs.write_frame.Key.{name as #niegluk·write-frame}
+use Rattle.niegluk.proofs.write_frame as f
+use Rattle.niegluk.proofs.write_frame.Statement as stated
+use Rattle.niegluk.proofs.write_frame.Code as code
 
-fits : tie.Need-add-bytes
-fits c = width-fits (c .before .before .before .before .before .before .before .before .before .tabulate .ensures) (c .before .before .before .before .enum-told .given .1) (search needs)
+abbrev form : Form
+form = record {
+  lowers = true;
+  Result = S.the-row;
+  mir = S′.mir;
+  typed = λ 𝓤 H A W r u is. EL.lawful S.the-type S′.the-laws 𝓤 H A W tt .typed r _ is .0;
+  Needs = λ s f o. Unit {0};
+  Asks = λ s r C f o. TypeRead true s r C;
+  asks = λ s f o r C n e. e;
+  Answer = λ s f o o′ r. (numberOf r, lengthOf r, o′) ≡ delivered (framed after s f) o;
+}
 
-no-room : tie.Need-returns
-no-room c =
-    let size = c .before .enum-told2 .given .1 in
-    let answer = c .before .before .before .check-file .ensures in
-    let ok = c .before .before .before .before .before .enum-told .given .1 in
-    let table = c .before .before .before .before .before .before .before .before .before .before .tabulate .ensures in
-    let short = c .if1 .taken in
-    frame-no-room table ok _ answer size (search needs) (omega arith)
-
-room : tie.Need-write-frame-requires
-room c κs =
-    let size = c .before .before .before .before .enum-told2 .given .1 in
-    let answer = c .before .before .before .before .before .before .check-file .ensures in
-    let ok = c .before .before .before .before .before .before .before .before .enum-told .given .1 in
-    let table = c .before .before .before .before .before .before .before .before .before .before .before .before .before .tabulate .ensures in
-    let enough = c .before .before .before .if1 .left in
-    (lower-given table ok, (frame-wide table ok (search needs), frame-ready table ok _ answer size (search needs) _ (omega arith)))
-
-result : tie.Need-returns-4
-result c =
-    let size = c .before .before .before .before .before .before .before .enum-told2 .given .1 in
-    let answer = c .before .before .before .before .before .before .before .before .before .check-file .ensures in
-    let ok = c .before .before .before .before .before .before .before .before .before .before .before .enum-told .given .1 in
-    let table = c .before .before .before .before .before .before .before .before .before .before .before .before .before .before .before .before .tabulate .ensures in
-    let enough = c .before .before .before .before .before .before .if1 .left in
-    frame-done table ok _ answer size (search needs) (omega arith) (c .before .before .write-frame .ensures)
-
-ruleset steps = (lower-given, frame-refused, frame-bad-value, needs)
-
-pub write-frame-spec : {M : Type 1} → statement M
-write-frame-spec =
-    tie.close
-    (tie.spec
-    (λ c. search needs)
-    (λ c. search needs)
-    (λ c. search needs)
-    (λ c κs. search needs)
-    (λ c. search needs)
-    (λ c. search needs)
-    (λ c. search needs)
-    (λ c κs. search steps)
-    (λ c. search needs)
-    (λ c. search needs)
-    (λ c. search needs)
-    fits
-    no-room
-    (λ c. search needs)
-    (λ c. search needs)
-    room
-    (λ c. search steps)
-    (λ c. search steps)
-    (λ c. search needs)
-    result)
+pub write-frame-spec : {M : Type 1} → stated.statement M
+unfolding code.routine tablesOf
+write-frame-spec 𝓤 H 𝓜 𝓖 𝓡 =
+    entered 𝓤 H (tripleOf 𝓤 H (𝓖 .A) f.signature (f.spec 𝓤 H (𝓖 .A) (𝓜 .mem) (𝓡 .run)))
+    (tables 𝓤 H 𝓜 𝓡 code.env .C) (tables 𝓤 H 𝓜 𝓡 code.env .Λ) #niegluk·write-frame code.function (code.unfolded 𝓤 H 𝓜 𝓡)
+    (meets 𝓤 H (𝓖 .A) (givenOf 𝓤 H 𝓜 𝓖) (𝓜 .mem) (𝓡 .run) form #entries·read-type #operations·write-frame (λ s f o. tt) (tablesOf 𝓤 H 𝓜 (tables 𝓤 H 𝓜 𝓡 code.env))
+    (cited 𝓤 H (ReadType 𝓤 H (𝓖 .A) (𝓜 .mem) (𝓡 .run)) 𝓜 𝓡 code.env #entries·read-type read-def.routine code.calls-entries·read-type (read-thm.met 𝓤 H 𝓜 𝓖 𝓡))
+    (cited 𝓤 H (Operates form 𝓤 H (𝓖 .A)) 𝓜 𝓡 code.env #operations·write-frame op-def.routine code.calls-operations·write-frame (op-thm.met 𝓤 H 𝓜 𝓖 𝓡)))

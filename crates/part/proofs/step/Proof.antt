@@ -6,8 +6,11 @@ use native.Mathlib.Omega.{arith}
 use borrow.Author.Needs.{needs}
 use Rattle.types.specs.declared.Head.{Head}
 use Rattle.types.specs.declared.Head.the-variants.{Missing, Faulty, Never, Boolean, UInt, Either, Opt, Tuple, Array, Listed, Variants, Payload}
+use Rattle.structural.specs.Forms.{Stands}
+use Rattle.structural.specs.Laws.Forms.{level-some, next-fits}
 use Rattle.part.specs.Forms.{below, step-at}
-use Rattle.part.specs.Laws.Asked.{step-says, level-some, record-within, tuple-rowed, array-asked, listed-asked, option-asked, either-asked, enum-asked}
+use Rattle.part.specs.Laws.Holds.{holding-stands}
+use Rattle.part.specs.Laws.Asked.{step-says, tuple-rowed, array-asked, listed-asked, option-asked, either-asked, enum-asked}
 use Rattle.part.proofs.step.Statement.{statement}
 use Rattle.part.proofs.step.Tie as tie
 use Rattle.part.proofs.step.Reads as reads
@@ -22,12 +25,16 @@ use Rattle.types.proofs.head_at.Reads as head-at-reads
 abbrev calls : lts.Claims
 calls = (head-at-reads.Asked, head-at-reads.Learnt, side-of-reads.Asked, side-of-reads.Learnt, element-of-reads.Asked, element-of-reads.Learnt, part-of-reads.Asked, part-of-reads.Learnt, copy-of-reads.Asked, copy-of-reads.Learnt, variant-of-reads.Asked, variant-of-reads.Learnt)
 
+-- the record stands
+there : (c : lts.After-head-at calls reads.Pre reads.Post) → let a = c .before .before .before .before .before .args in Stands (a .level) (a .ty .now) (a .ends .now) (a .at)
+there c = holding-stands (c .before .before .before .before .before .pre .0 .holding)
+
 -- the record behind, and a level for it
 next : (c : lts.After-head-at calls reads.Pre reads.Post) → c .before .before .before .before .before .args .at + 1 < 2 ^ 64
-next c = let l = record-within (c .before .before .before .before .before .pre .0) in let k = c .before .before .before .before .before .good in omega arith
+next c = let l = next-fits (there c) (let k = c .before .before .before .before .before .good in omega arith) in omega arith
 
 level : (c : lts.After-head-at calls reads.Pre reads.Post) → 1 ≤ c .before .before .before .before .before .args .level
-level c = level-some (c .before .before .before .before .before .pre .0)
+level c = level-some (there c)
 
 -- what the record says
 says : (c : lts.After-head-at calls reads.Pre reads.Post) (k : Head) → c .head-at .result ≡ k → let a = c .before .before .before .before .before .args in

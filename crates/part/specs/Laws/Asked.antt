@@ -47,9 +47,9 @@ use Rattle.record.specs.declared.Form.the-variants as form
 use Rattle.record.specs.Forms.{form-of}
 use Rattle.accept.specs.Forms.{tag-at, choice-in}
 use Rattle.accept.specs.Laws.Sums.{choice-less}
+use Rattle.accept.specs.Laws.Formed.{copies-wide}
 use Rattle.unframe.specs.declared.Choice.{Choice}
 use Rattle.unframe.specs.Forms.{height, Chosen}
-use Rattle.unframe.specs.Laws.Parts.{width-copies}
 use Rattle.unframe.specs.Laws.Formed.{SumFramed, as-product, as-sum, as-list}
 use Rattle.part.specs.declared.Place.{Place}
 use Rattle.part.specs.declared.Place.the-variants.{At, Nowhere}
@@ -279,13 +279,6 @@ unfolding wide-list
 wide-partition zero w t h = rw h (omega (arith, width-partition-zero t))
 wide-partition (suc e) w t h = let a = wide-partition e w t h in let b = width-partition-suc e t in let c = ap (λ x. 2 ^ suc e * x) h in omega arith
 
-module _ {d : ℕ} {s E : List ℕ} {p : ℕ} {fr : List ℕ} {bit : ℕ} (o : Holds d s E p fr bit) where
-  pub level-some : 1 ≤ d
-  level-some = let l = given-levels (o .holding .given) in omega arith
-
-  pub record-within : p < length s / 4
-  record-within = given-within (o .holding .given)
-
 module _ {d : ℕ} {s E W : List ℕ} {p : ℕ} {fr : List ℕ} {bit : ℕ} {h : Head} (o : Holds d s E p fr bit) (w : Wide s E W) (e : h ≡ headAt s p) (f : Fair h) where
   stands-there : Stands d s E p
   stands-there = holding-stands (o .holding)
@@ -311,7 +304,7 @@ module _ {d : ℕ} {s E W : List ℕ} {p : ℕ} {fr : List ℕ} {bit : ℕ} {h :
       let l = given-within a in
       let m = w .long in
       let k = as-product stands-there e f refl (ap form-of i) .wide in
-      let c = width-copies (d - 1) s n (p + 1) in
+      let c = copies-wide (d - 1) s n (p + 1) in
       let r = ap (λ x. n * x) (w .right (d - 1) (p + 1) (stands a)) in
       let u = inside-there .1 in
       (omega arith, omega arith)

@@ -60,7 +60,7 @@ module _ {d : ℕ} {s E : List ℕ} {p : ℕ} {fr : List ℕ} {bit : ℕ} {t : T
   holding-inside = subst (λ a. Inside fr bit (width a)) (sym holding-type) (h .inside)
 
   -- the frame says its shape
-  pub holding-shape : shape-at (structural.standing d s p) fr bit ≡ inject t v
+  holding-shape : shape-at (structural.standing d s p) fr bit ≡ inject t v
   unfolding shape-at frame
   holding-shape = ap (λ a. shape-at a fr bit) holding-type ∙ ap (from-bits after (lower t)) (h .bits) ∙ from-bits-bits after (inject-belongs t v (h .valid))
 

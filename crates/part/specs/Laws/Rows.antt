@@ -37,7 +37,7 @@ use Rattle.part.specs.Forms.{wide-row, among, copy}
 use Rattle.part.specs.Holds.{Reached, Leads}
 
 -- a part of what is itself a part begins as many bits later as are written ahead of that
-pub reached-within : {s E : List ℕ} {X Y : Type 0} (f : X → Y) (k : List Bool) {o : Option (Part X)} {bit p d b : ℕ} → Reached s E o (bit + length k) p d b → Reached s E (mapO (within f k) o) bit p d b
+reached-within : {s E : List ℕ} {X Y : Type 0} (f : X → Y) (k : List Bool) {o : Option (Part X)} {bit p d b : ℕ} → Reached s E o (bit + length k) p d b → Reached s E (mapO (within f k) o) bit p d b
 reached-within f k h = record { part = within f k (h .part); there = ap (mapO (within f k)) (h .there); given = h .given; same = h .same; begins = h .begins ∙ omega (arith, length-append k (h .part .ahead)) }
 
 -- the same place under other names

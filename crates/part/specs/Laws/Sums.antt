@@ -4,17 +4,12 @@ use mathlib.Core.Bool.{Bool, false, true}
 use mathlib.Core.List.{List, [], _∷_, _++_, append-assoc}
 use mathlib.Core.Logic.{inl, inr}
 use mathlib.Core.Option.{Option, none}
-use Prim.Native.Nat.{ℕ, zero, suc, _+_, _-_, _*_, _/_, _≤_, _<_, max}
+use Prim.Native.Nat.{ℕ, zero, suc, _+_, _-_, _*_, _≤_, _<_, max}
 use native.Mathlib.Omega.{arith}
 use lib.Dec.{ltb, eqb, eqb·suc-zero}
 use lib.ListN.{length, take, drop, getD, length-append}
 use lib.Seq.{take-at, take-take}
 use borrow.Author.Tests.{ltb-true, ltb-false, ne-eqb}
-use Rattle.num.specs.declared.Bound.{Bound}
-use Rattle.num.specs.declared.Bound.the-variants as bounds
-use Rattle.num.specs.declared.Width.{Width}
-use Rattle.num.specs.declared.Width.the-variants as bit-widths
-use Rattle.num.specs.Powers.{bound-of, width-of}
 use Rattle.model.specs.Options.{pick, mapO}
 use Rattle.model.specs.Bytes.{bits-of}
 use Rattle.model.specs.Balanced.{BTree, leaf, fork, leaves, btree, grow, btree-split-index, next-power-of-two}
@@ -27,21 +22,19 @@ use Rattle.model.specs.Frames.{after, width, bits, frame}
 use Rattle.model.specs.Parts.{Part, within, ahead-of-payload, part-of, choice-part, child}
 use Rattle.model.specs.Laws.Shapes.{index-bound}
 use Rattle.model.specs.Laws.Parts.{frame-enum}
-use Rattle.types.specs.declared.Head.{Head}
-use Rattle.types.specs.declared.Head.the-variants.{Missing, Faulty, Either, Variants}
+use Rattle.types.specs.declared.Head.the-variants.{Either, Variants}
 use Rattle.types.specs.declared.Rec.{Rec}
 use Rattle.types.specs.declared.Rec.the-variants.{Gone, Wrong, Types, Enum, Variant}
-use Rattle.types.specs.Record.{by-width, by-bound, headOf, headAt, callsFor, recAt}
+use Rattle.types.specs.Record.{headAt, recAt}
 use Rattle.types.specs.Walks.{walk}
 use Rattle.types.specs.Trees.{endOf, cases, payload, tree, treev}
-use Rattle.types.specs.Steps.{Given, GivenRow, given-below, given-end, given-head, given-levels, treev-in}
-use Rattle.types.specs.Unique.{kind, count as called}
+use Rattle.types.specs.Steps.{Given, GivenRow, given-below, given-end, given-head, given-levels, treev-in, count-cases}
+use Rattle.table.specs.Measuring.{some-variants}
 use Rattle.bits.specs.Bits.{bits-at, Inside}
 use Rattle.bits.specs.Laws.Runs.{length-bits-at}
 use Rattle.told.specs.Widths.{Wide}
 use Rattle.told.specs.Forms.{hops}
 use Rattle.told.specs.Laws.Rows.{first, rest}
-use Rattle.value.specs.Follow.{count-cases}
 use Rattle.accept.specs.Forms.{tag-at, farther, led, choice-in}
 use Rattle.accept.specs.Laws.Bits.{first-bit}
 use Rattle.part.specs.declared.Place.{Place}
@@ -52,49 +45,9 @@ use Rattle.part.specs.Laws.Rows.{row-leads, leads-within}
 
 -- AN ENUM HAS A VARIANT
 
--- where Variants are called for, there is at least one
-abbrev Some : Head → Type 0
-Some h = kind (callsFor h) ≡ true → 1 ≤ called (callsFor h)
-
--- none are
-some-none : {n : ℕ} → false ≡ true → 1 ≤ n
-some-none e = absurd (let z : _≡_ {A = ℕ} 0 1 = cc in omega arith)
-
-some-either : (b : Bool) (x y : Head) → Some x → Some y → Some (pick b x y)
-some-either true x y h k = h
-some-either false x y h k = k
-
-some-width : (r : Width) → Some (by-width r)
-some-width (bit-widths.Of w) = some-none
-some-width bit-widths.Not = some-none
-
-some-bound : (r : Bound) → Some (by-bound r)
-some-bound (bounds.Of b) = some-none
-some-bound bounds.Not = some-none
-
-some-enum : (n : ℕ) → Some (pick (eqb n 0) Faulty (Variants n))
-some-enum zero = some-none
-some-enum (suc n) = rw (eqb·suc-zero n) (λ e. omega arith)
-
-some-head : (k z n : ℕ) → Some (headOf k z n)
-unfolding headOf
-some-head k z n =
-    some-either (eqb z 0) _ _
-    (some-either (eqb k 0) _ _ (some-either (eqb n 0) _ _ some-none some-none)
-    (some-either (eqb k 1) _ _ (some-either (eqb n 0) _ _ some-none some-none)
-    (some-either (eqb k 2) _ _ (some-width (width-of n))
-    (some-either (eqb k 3) _ _ (some-either (eqb n 0) _ _ some-none some-none)
-    (some-either (eqb k 4) _ _ (some-either (eqb n 0) _ _ some-none some-none)
-    (some-either (eqb k 5) _ _ some-none
-    (some-either (eqb k 6) _ _ some-none
-    (some-either (eqb k 7) _ _ (some-bound (bound-of n))
-    (some-either (eqb k 8) _ _ (some-enum n)
-    (some-either (eqb k 9) _ _ some-none some-none))))))))))
-    some-none
-
 some-variant : (s : List ℕ) (p n : ℕ) → headAt s p ≡ Variants n → 1 ≤ n
-unfolding headAt
-some-variant s p n e = subst Some e (some-either (ltb p (length s / 4)) _ Missing (some-head _ _ _) some-none) refl
+some-variant s p zero e = absurd (some-variants s p e)
+some-variant s p (suc n) e = omega arith
 
 -- TAGS
 

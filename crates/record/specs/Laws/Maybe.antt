@@ -1,10 +1,9 @@
--- Small laws of what may be there.
+-- A law of what may be there.
 use mathlib.Core.Path.{_≡_, refl, ap}
 use mathlib.Core.List.{List, _++_}
 use mathlib.Core.Option.{Option, none, some}
 use Rattle.model.specs.Options.{mapO, bindO}
 use Rattle.model.specs.ValueFiles.{Rec}
-pub use Rattle.model.specs.Laws.Options.{mapO-mapO}
 
 -- the records of one value and those of others
 pub joined : {A B C : Type 0} (f : A → List Rec) (g : B → List Rec) (c : A → B → C) (k : C → List Rec) → ((x : A) (y : B) → f x ++ g y ≡ k (c x y)) → (o : Option A) (u : Option B)

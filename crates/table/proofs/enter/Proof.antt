@@ -1,65 +1,48 @@
+-- `table::enter` meets its contract: what stands behind record i is read from both halves of the facts, and its own are put down at i and at 1024 + i, which both lie within them.
+-- The second half, as it is cut out, is all that stands from 1024 on; a number put down in one half leaves the other as it was. Assumes nothing.
 use mathlib.Core.Path.{refl}
-use Rattle.table.specs.Measuring.{entered}
+use lib.Seq.{lt-length-set}
+use Rattle.table.specs.Halves.{first-count}
+use Rattle.table.specs.Measuring.{entered-halves}
 use borrow.Author.Needs.{needs}
+use native.Mathlib.Omega.{arith}
 use Rattle.table.proofs.enter.Statement.{statement}
 use Rattle.table.proofs.enter.Tie as tie
 
--- src/lib.rt:240:9
-head-at-requires : tie.Need-head-at-requires
-head-at-requires c κs = search needs
+slice-aggregate-facts-of : tie.Need-slice-aggregate-facts-of
+slice-aggregate-facts-of c = let a = c .before .before .before .before .before .before in let p = a .pre in first-count (a .args .facts .now) (omega arith)
 
--- src/lib.rt:241:46
-add-facts-of : tie.Need-add-facts-of
-add-facts-of c = search needs
+part-facts-of-start : tie.Need-part-facts-of-start
+part-facts-of-start c = let p = c .before .before .before .before .before .before .pre in omega arith
 
--- src/lib.rt:241:9
-facts-of-requires : tie.Need-facts-of-requires
-facts-of-requires c κs = search needs
+slice-write-facts : tie.Need-slice-write-facts
+slice-write-facts c = let p = c .before .before .before .before .before .before .before .before .pre in omega arith
 
--- src/lib.rt:242:5
-mul-sizes : tie.Need-mul-sizes
-mul-sizes c = search needs
+mul-facts-2 : tie.Need-mul-facts-2
+mul-facts-2 c = let p = c .before .before .before .before .before .before .before .before .pre in record { fits = omega arith }
 
--- src/lib.rt:242:5
-slice-write-sizes : tie.Need-slice-write-sizes
-slice-write-sizes c = search needs
+slice-write-facts-2 : tie.Need-slice-write-facts-2
+slice-write-facts-2 c = let a = c .before .before .before .before .before .before .before .before in lt-length-set (a .args .facts .now) (a .args .i) (c .facts-of .result .size) (a .pre .1)
 
--- src/lib.rt:243:5
-mul-widths : tie.Need-mul-widths
-mul-widths c = search needs
-
--- src/lib.rt:243:5
-slice-write-widths : tie.Need-slice-write-widths
-slice-write-widths c = search needs
-
--- src/lib.rt:244:20
-is-never-requires : tie.Need-is-never-requires
-is-never-requires c κs = search needs
-
--- src/lib.rt:235:1
-same-length : tie.Need-same-length
-same-length c = search needs
-
--- src/lib.rt:235:1
-same-length-2 : tie.Need-same-length-2
-same-length-2 c = search needs
-
--- src/lib.rt:235:1
 returns : tie.Need-returns
-returns c = let h = c .before .before .before .before .before .head-at .ensures in entered _ _ _ _ _ _ _ _ _ (h .0) (h .1) (c .before .before .facts-of .ensures) (c .before .is-never .ensures) refl
+returns c = let a = c .before .before .before .before .before .before .before .before .before .before in let h = c .before .before .before .before .before .before .head-at .ensures in entered-halves _ _ (a .args .facts .now) _ _ _ _ _ (a .pre .0) (h .0) (h .1) (c .before .before .facts-of .ensures) (c .before .is-never .ensures) refl
 
 pub enter-spec : {M : Type 1} → statement M
 enter-spec =
     tie.close
     (tie.spec
-    head-at-requires
-    add-facts-of
-    facts-of-requires
-    mul-sizes
-    slice-write-sizes
-    mul-widths
-    slice-write-widths
-    is-never-requires
-    same-length
-    same-length-2
+    (λ c κs. search needs)
+    slice-aggregate-facts-of
+    (λ c. search needs)
+    part-facts-of-start
+    (λ c. search needs)
+    (λ c. search needs)
+    (λ c κs. search needs)
+    (λ c. search needs)
+    slice-write-facts
+    (λ c. search needs)
+    mul-facts-2
+    slice-write-facts-2
+    (λ c κs. search needs)
+    (λ c. search needs)
     returns)

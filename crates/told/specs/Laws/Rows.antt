@@ -20,8 +20,9 @@ use Rattle.types.specs.Trees.{endOf, kids, tree}
 use Rattle.types.specs.Steps.{Given, GivenRow, given-first, given-rest, given-end, given-inside}
 use Rattle.structural.specs.Forms.{Stands}
 use Rattle.structural.specs.Laws.Forms.{is-kind, stands, stands-end, ending-is}
+use Rattle.told.specs.declared.Parts.{Parts}
 use Rattle.told.specs.declared.Parts.the-variants.{Copies, Types}
-use Rattle.told.specs.Forms.{Told, rows-from, shown, told, standing, after, skip, row, GivenParts, hops, Hops}
+use Rattle.told.specs.Forms.{Told, rows-from, shown, told, standing, after, skip, row, GivenParts, hops, Hops, after-at}
 use Rattle.told.specs.Laws.Seen.{seen, seen-then}
 
 -- ONE OF THEM
@@ -64,6 +65,12 @@ module _ {d : ℕ} {v : Bool} {s E : List ℕ} where
 
   pub given-types : (n p : ℕ) → GivenRow d v s E n p → GivenParts Types d s E n p
   given-types n p g = record { each = λ i l. rw (skipped i n p l g) (stands (hopped i n p l g)) }
+
+-- the record after a part, by the table of ends
+pub after-is : (k : Parts) {d : ℕ} {s E : List ℕ} {p : ℕ} → Stands d s E p → after-at k E p ≡ after k d s p
+unfolding after
+after-is Copies g = refl
+after-is Types g = stands-end g
 
 -- COPIES, all at one place
 

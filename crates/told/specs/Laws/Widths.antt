@@ -19,6 +19,7 @@ use Rattle.types.specs.declared.Walk.the-variants.{End}
 use Rattle.types.specs.Walks.{walk}
 use Rattle.types.specs.Trees.{tree}
 use Rattle.types.specs.Lows.{low}
+use Rattle.types.specs.Steps.{given-within}
 use Rattle.types.specs.Record.{recAt}
 use Rattle.types.specs.Accepted.{ends-whole, few}
 use Rattle.types.specs.Unique.{inside}
@@ -27,7 +28,7 @@ use Rattle.table.specs.Flags.{flagged}
 use Rattle.table.specs.Lowering.{largeAt, large-flagged}
 use Rattle.table.specs.Measuring.{some-variants}
 use Rattle.table.specs.Tabled.{Table, TableIf, Tabled}
-use Rattle.structural.specs.Forms.{is-variant, standing}
+use Rattle.structural.specs.Forms.{Stands, is-variant, standing}
 use Rattle.told.specs.Widths.{Wide}
 
 -- where none of n records is flagged, each is not
@@ -72,3 +73,7 @@ module _ {s E S W : List ℕ} {r : TypeAnswer} {n : ℕ} (p : Tabled s r E S W) 
         right = λ d i g. record-width table not-large d i (g .given .starts .end) (is-variant (recAt s i)) (g .given .starts .walks) .0;
         small = λ d i g. record-width table not-large d i (g .given .starts .end) (is-variant (recAt s i)) (g .given .starts .walks) .1;
       }
+
+-- it has a place for each record that stands
+pub width-there : {d : ℕ} {s E W : List ℕ} {p : ℕ} → Stands d s E p → Wide s E W → p < length W
+width-there g w = let h = given-within (g .given) in let l = w .long in omega arith

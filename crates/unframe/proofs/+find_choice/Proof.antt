@@ -6,8 +6,9 @@ use native.Mathlib.Omega.{arith}
 use borrow.Author.Needs.{needs}
 use borrow.Fn.Kinds.{In}
 use borrow.Fn.PlainCycle.{Measures, is, falls, and}
-use Rattle.accept.specs.Laws.Sums.{choice-less}
-use Rattle.unframe.specs.Laws.Tags.{Shares, shares, left-hops, right-hops, higher, chosen-only, chosen-left, chosen-right}
+use Rattle.model.specs.Laws.Balanced.{Shares}
+use Rattle.accept.specs.Laws.Sums.{shares-some, choice-less}
+use Rattle.unframe.specs.Laws.Tags.{left-hops, right-hops, higher, chosen-only, chosen-left, chosen-right}
 use Rattle.unframe.proofs.find_choice.Reads as find-choice
 use Rattle.unframe.proofs.find_choice.Kinds as find-choice-kinds
 use Rattle.unframe.proofs.+find_choice.Lts-find_choice as find-choice-lts
@@ -31,7 +32,7 @@ module _ (t : ℕ) where
   calls = (btree-split-index-reads.Asked, btree-split-index-reads.Learnt, bit-at-reads.Asked, bit-at-reads.Learnt, hop-reads.Asked, hop-reads.Learnt, find-choice-below, find-choice.Post)
 
   split : (c : find-choice-lts.After-btree-split-index calls find-choice-at find-choice.Post) → Shares (c .before .before .before .before .args .n) (c .btree-split-index .result)
-  split c = shares (c .btree-split-index .ensures) (c .before .before .before .before .pre .1 .0 .0) (c .before .if1 .left)
+  split c = shares-some (c .btree-split-index .ensures) (c .before .before .before .before .pre .1 .0 .0) (c .before .if1 .left)
 
   returns : find-choice-lts.Need-returns calls find-choice-at find-choice.Post
   returns c = let a = c .before .before .before .args in chosen-only (a .ends .now) (a .at) (a .n) (a .frame .now) (a .bit) (c .if1 .taken)

@@ -16,17 +16,20 @@ use Rattle.model.specs.Laws.Sizes.{width-block}
 use Rattle.types.specs.Steps.{given-inside}
 use Rattle.structural.specs.Forms as structural
 use Rattle.structural.specs.Writing.{put}
+use Rattle.structural.specs.Laws.Forms.{level-some, next-fits}
 use Rattle.structural.specs.Laws.Bounds.{bound-small}
 use Rattle.told.specs.declared.Parts.{Parts}
-use Rattle.told.specs.Laws.Rows.{given-copies}
+use Rattle.told.specs.Laws.Rows.{after-is, given-copies}
+use Rattle.told.specs.Laws.Widths.{width-there}
 use Rattle.record.specs.Marks.{mark-of, bytes}
 use Rattle.record.specs.declared.Form.the-variants as form
+use Rattle.record.specs.Laws.Writing.{lent-length}
 use Rattle.accept.specs.Forms.{tag-at}
+use Rattle.accept.specs.Laws.Formed.{copies-wide}
 use Rattle.unframe.specs.Forms.{block, listed}
-use Rattle.unframe.specs.Laws.Parts.{width-copies}
 use Rattle.unframe.specs.Laws.Lists.{listed-below, list-two, Halved, list-more}
 use Rattle.unframe.specs.Laws.Formed.{NothingFramed, BitFramed, IntegerFramed, ProductFramed, SumFramed, ListFramed, PayloadFramed, as-nothing, as-boolean, as-integer, as-product, as-sum, as-list, as-payload}
-use Rattle.unframe.proofs.Steps.{level-some, next-fits, wide-inside, nothing-there, ready-as, placed-as, one-room, one-placed, bit-below, marked-room, marked-ready, marked-length, marked-small, marked-placed, numbered-room, numbered-ready, numbered-length, numbered-small, numbered-placed, Rowing, rowing-start, rowing-length, rowing-fits, rowing-end, rowing-stands, rowing-inside, rowing-ready, rowing-small, rowing-next, after-is, head-length, lent-length, integer-placed, block-ready, block-placed, block-missing, numbered-as, placed-numbered-as, block-wide, Blocks, first-ready, block-fits, second-ready, lengths-fit, list-placed, halved-wide, halved-blocks}
+use Rattle.unframe.proofs.Steps.{nothing-there, ready-as, placed-as, one-room, one-placed, bit-below, marked-room, marked-ready, marked-length, marked-small, marked-placed, numbered-room, numbered-ready, numbered-length, numbered-small, numbered-placed, Rowing, rowing-start, rowing-length, rowing-fits, rowing-end, rowing-stands, rowing-inside, rowing-ready, rowing-small, rowing-next, head-length, integer-placed, block-ready, block-placed, block-missing, numbered-as, placed-numbered-as, block-wide, Blocks, first-ready, block-fits, second-ready, lengths-fit, list-placed, halved-wide, halved-blocks}
 use borrow.Fn.Kinds.{In}
 use borrow.Fn.PlainCycle.{Measures, is, falls, and}
 use Rattle.unframe.proofs.write_block.Reads as write-block
@@ -177,7 +180,7 @@ module _ (t : ℕ) where
       let i = g .1 .1 .1 .0 .0 in
       let j = g .1 .1 .1 .0 .1 in
       let e = width-block (a .n) (structural.standing (a .level) (a .ty .now) (a .at)) in
-      let f = width-copies (a .level) (a .ty .now) (a .n) (a .at) in
+      let f = copies-wide (a .level) (a .ty .now) (a .n) (a .at) in
       (omega arith, (given-copies (a .n) (g .1 .0), (g .1 .1 .0, ((omega arith, omega arith), block-ready (a .level) (a .ty .now) (a .n) (a .at) (a .frame .now) (a .bit) (g .1 .1 .1 .1) (sym (c .before .before .bit-at .ensures) ∙ c .before .if1 .taken)))))
 
   write-block-returns : write-block-lts.Need-returns write-block-calls write-block-at write-block.Post
@@ -209,10 +212,10 @@ module _ (t : ℕ) where
   write-list-add-next c = let w = all-wide (c .before .before .before .before) in let j = c .before .before .before .before .before .before .before .before .before .before .before .before .before .before .pre .1 .1 .1 .1 .0 .1 in omega arith
 
   write-list-mul-next : write-list-lts.Need-mul-next write-list-calls write-list-at write-list.Post
-  write-list-mul-next c = let l = wide-inside (c .before .before .before .before .before .before .before .before .before .before .before .before .before .before .pre .1 .1 .0) (c .before .before .before .before .before .before .before .before .before .before .before .before .before .before .pre .1 .1 .1 .0) in omega arith
+  write-list-mul-next c = let l = width-there (c .before .before .before .before .before .before .before .before .before .before .before .before .before .before .pre .1 .1 .0) (c .before .before .before .before .before .before .before .before .before .before .before .before .before .before .pre .1 .1 .1 .0) in omega arith
 
   write-list-shared-slice-read-next : write-list-lts.Need-shared-slice-read-next write-list-calls write-list-at write-list.Post
-  write-list-shared-slice-read-next c = wide-inside (c .before .before .before .before .before .before .before .before .before .before .before .before .before .before .before .pre .1 .1 .0) (c .before .before .before .before .before .before .before .before .before .before .before .before .before .before .before .pre .1 .1 .1 .0)
+  write-list-shared-slice-read-next c = width-there (c .before .before .before .before .before .before .before .before .before .before .before .before .before .before .before .pre .1 .1 .0) (c .before .before .before .before .before .before .before .before .before .before .before .before .before .before .before .pre .1 .1 .1 .0)
 
   write-list-mul-next-2 : write-list-lts.Need-mul-next-2 write-list-calls write-list-at write-list.Post
   write-list-mul-next-2 c = let w = all-wide (c .before .before .before .before .before) in let j = c .before .before .before .before .before .before .before .before .before .before .before .before .before .before .before .pre .1 .1 .1 .1 .0 .1 in omega arith
@@ -473,10 +476,10 @@ module _ (t : ℕ) where
   write-row-add-k c = let l = rowing-small (c .before .before .before .before .before .loop .inv) (c .before .before .before .before .loop-test .taken) (c .before .before .write-record .ensures) in omega arith
 
   write-row-mul-here : write-row-lts.Need-mul-here write-row-calls write-row-at write-row.Post row-inv row-measure
-  write-row-mul-here c = let l = wide-inside (rowing-stands (c .before .before .before .before .before .loop .inv) (c .before .before .before .before .loop-test .taken)) (c .before .before .before .before .before .before .before .before .before .before .before .pre .1 .1 .0) in omega arith
+  write-row-mul-here c = let l = width-there (rowing-stands (c .before .before .before .before .before .loop .inv) (c .before .before .before .before .loop-test .taken)) (c .before .before .before .before .before .before .before .before .before .before .before .pre .1 .1 .0) in omega arith
 
   write-row-shared-slice-read-here : write-row-lts.Need-shared-slice-read-here write-row-calls write-row-at write-row.Post row-inv row-measure
-  write-row-shared-slice-read-here c = wide-inside (rowing-stands (c .before .before .before .before .before .before .loop .inv) (c .before .before .before .before .before .loop-test .taken)) (c .before .before .before .before .before .before .before .before .before .before .before .before .pre .1 .1 .0)
+  write-row-shared-slice-read-here c = width-there (rowing-stands (c .before .before .before .before .before .before .loop .inv) (c .before .before .before .before .before .loop-test .taken)) (c .before .before .before .before .before .before .before .before .before .before .before .before .pre .1 .1 .0)
 
   write-row-add-here : write-row-lts.Need-add-here write-row-calls write-row-at write-row.Post row-inv row-measure
   write-row-add-here c = let i = c .before .before .before .before .before .before .loop .inv in
@@ -499,7 +502,7 @@ module _ (t : ℕ) where
       let z = c .before .before .before .before .before .before .loop-test .taken in
       let s = rowing-stands i z in
       let a = c .before .before .before .before .before .before .before .before .before .before .before .before .before .args in
-      rowing-next i z (c .before .before .before .before .write-record .ensures) _ _ (after-is (a .parts) s (c .after-part .ensures)) (ap (λ w. c .before .before .before .before .before .before .before .loop .here + w) (c .before .before .before .before .before .before .before .before .before .before .before .before .before .pre .1 .1 .0 .right (a .level) (c .before .before .before .before .before .before .before .loop .place) s))
+      rowing-next i z (c .before .before .before .before .write-record .ensures) _ _ (c .after-part .ensures ∙ after-is (a .parts) s) (ap (λ w. c .before .before .before .before .before .before .before .loop .here + w) (c .before .before .before .before .before .before .before .before .before .before .before .before .before .pre .1 .1 .0 .right (a .level) (c .before .before .before .before .before .before .before .loop .place) s))
 
   write-row-same-length : write-row-lts.Need-same-length write-row-calls write-row-at write-row.Post row-inv row-measure
   write-row-same-length c = rowing-length (c .before .loop .inv)

@@ -2,9 +2,9 @@
 use mathlib.Core.Path.{_≡_, refl, sym, ap, subst, _∙_}
 use mathlib.Core.List.{List, [], _∷_}
 use mathlib.Core.Option.{Option, none, some}
-use Prim.Native.Nat.{ℕ, zero, suc, _+_, _-_, _*_, _≤_, _<_}
+use Prim.Native.Nat.{ℕ, _+_, _-_, _*_, _≤_, _<_}
 use native.Mathlib.Omega.{arith}
-use lib.ListN.{length, getD, replicate, length-replicate}
+use lib.ListN.{length, getD, replicate}
 use Rattle.num.specs.declared.NonZeroPow2Usize.{NonZeroPow2Usize}
 use Rattle.model.specs.Options.{mapO, bindO}
 use Rattle.model.specs.Bytes.{of-bits}
@@ -13,7 +13,7 @@ use Rattle.model.specs.Structural.{SType, 𝟙, _⊕_, _⊗_}
 use Rattle.model.specs.Frames.{width}
 use Rattle.model.specs.Reconstruct.{as-bit, as-enum-leaf}
 use Rattle.model.specs.ValueFiles.{Rec, rec, bit-number}
-use Rattle.model.specs.Laws.Sizes.{width-array}
+use Rattle.model.specs.Laws.Options.{mapO-mapO}
 use Rattle.types.specs.declared.Head.{Head}
 use Rattle.types.specs.declared.Head.the-variants.{Missing, Faulty, Never, Boolean, UInt, Either, Opt, Tuple, Array, Listed, Variants}
 use Rattle.types.specs.declared.Head.the-variants as head
@@ -22,14 +22,11 @@ use Rattle.types.specs.Heads.{Fair, FairBound}
 use Rattle.types.specs.Steps.{given-inside}
 use Rattle.structural.specs.Forms.{Stands}
 use Rattle.structural.specs.Forms as structural
-use Rattle.structural.specs.declared.Parts.the-variants as parts
-use Rattle.structural.specs.declared.Parts as structural-parts
 use Rattle.structural.specs.Laws.Forms as lowered
-use Rattle.structural.specs.Laws.Trees.{row-stays}
 use Rattle.bits.specs.Bits.{bits-at}
 use Rattle.told.specs.declared.Parts.{Parts}
-use Rattle.told.specs.declared.Parts.the-variants.{Copies, Types}
-use Rattle.told.specs.Forms.{GivenParts, Hops, hops, after}
+use Rattle.told.specs.declared.Parts.the-variants.{Types}
+use Rattle.told.specs.Forms.{GivenParts, Hops, hops}
 use Rattle.record.specs.Marks.{mark-of, Marks}
 use Rattle.record.specs.declared.Form.{Form}
 use Rattle.record.specs.declared.Form.the-variants as form
@@ -37,15 +34,15 @@ use Rattle.record.specs.Forms.{form-of}
 use Rattle.record.specs.Trees.{part, product, elements, numbered, bit-row, sum}
 use Rattle.record.specs.Laws.Formed.{NothingRead, BitRead, IntegerRead, ProductRead, SumRead, ListRead, PayloadRead}
 use Rattle.record.specs.Laws.Formed as trees
-use Rattle.record.specs.Laws.Maybe.{mapO-mapO}
 use Rattle.accept.specs.Forms.{shape-at, tag-at, choice-in, types-in, row-width}
 use Rattle.accept.specs.Laws.Products.{bit-shape, integer-bits}
 use Rattle.accept.specs.Laws.Sums.{Taken, sum-taken, choice-less}
 use Rattle.accept.specs.Laws.Seen.{length-types, nth-type, skip-hops}
+use Rattle.accept.specs.Laws.Formed.{types-product, copies-product, choices-sum, bits-product, width-bits, product-wide}
 use Rattle.unframe.specs.declared.Choice.{Choice}
 use Rattle.unframe.specs.Forms.{standing, row, listed, height, Chosen}
 use Rattle.unframe.specs.Laws.Tags.{height-width}
-use Rattle.unframe.specs.Laws.Parts.{product-row, width-row, elements-listed}
+use Rattle.unframe.specs.Laws.Parts.{product-row, elements-listed}
 
 -- a record, and others behind it
 pub record Marked (m : Rec) (g o : Option (List Rec)) : Type 0 where
@@ -119,38 +116,11 @@ Formed h (form.Sum n) d s E p = SumFramed h n d s E p
 Formed h (form.List b) d s E p = ListFramed h b d s E p
 Formed h (form.Payload n) d s E p = PayloadFramed n d s E p
 
--- THE LOWERED TYPE'S PARTS
-
-same-row : (j : structural-parts.Parts) (k : Parts) (d : ℕ) (s : List ℕ) → ((q : ℕ) → structural.part j d s q ≡ structural.standing d s q) → ((q : ℕ) → structural.after j d s q ≡ after k d s q) → (n p : ℕ) → structural.row j d s n p ≡ types-in k d s n p
-unfolding structural.row types-in
-same-row j k d s one next zero p = refl
-same-row j k d s one next (suc n) p = (λ i. one p i ∷ structural.row j d s n (next p i)) ∙ ap {B = List SType} (λ l. structural.standing d s p ∷ l) (same-row j k d s one next n (after k d s p))
-
-module _ (d : ℕ) (s : List ℕ) (n p : ℕ) where
-  types-product : structural.balanced parts.Types d s n p ≡ fold _⊗_ 𝟙 (btree n) (types-in Types d s n p)
-  unfolding structural.balanced structural.part structural.after after
-  types-product = ap (fold _⊗_ 𝟙 (btree n)) (same-row parts.Types Types d s (λ q. refl) (λ q. refl) n p)
-
-  copies-product : structural.balanced parts.Copies d s n p ≡ fold _⊗_ 𝟙 (btree n) (types-in Copies d s n p)
-  unfolding structural.balanced structural.part structural.after after
-  copies-product = ap (fold _⊗_ 𝟙 (btree n)) (same-row parts.Copies Copies d s (λ q. refl) (λ q. refl) n p)
-
-  choices-sum : structural.balanced parts.Choices d s n p ≡ fold _⊕_ 𝟙 (btree n) (types-in Types d s n p)
-  unfolding structural.balanced structural.part structural.after after
-  choices-sum = ap (fold _⊕_ 𝟙 (btree n)) (same-row parts.Choices Types d s (λ q. refl) (λ q. refl) n p)
-
-  bits-product : structural.balanced parts.Bits d s n p ≡ fold _⊗_ 𝟙 (btree n) (replicate n (𝟙 ⊕ 𝟙))
-  unfolding structural.balanced structural.part structural.after
-  bits-product = ap (fold _⊗_ 𝟙 (btree n)) (row-stays parts.Bits d s (λ q. refl) n p)
+-- FORM BY FORM
 
 one-bit : fold _⊗_ 𝟙 (btree 1) (replicate 1 (𝟙 ⊕ 𝟙)) ≡ 𝟙 ⊕ 𝟙
 unfolding fold btree grow
 one-bit = refl
-
-width-bits : (n : ℕ) → width (fold _⊗_ 𝟙 (btree n) (replicate n (𝟙 ⊕ 𝟙))) ≡ n
-width-bits n = ap (λ i. width (fold _⊗_ 𝟙 (btree i) (replicate n (𝟙 ⊕ 𝟙)))) (sym (length-replicate n (𝟙 ⊕ 𝟙))) ∙ width-array n (𝟙 ⊕ 𝟙) ∙ omega arith
-
--- FORM BY FORM
 
 module _ {d : ℕ} {s : List ℕ} {p : ℕ} where
   nothing-framed : NothingRead d s p → NothingFramed d s p
@@ -180,7 +150,7 @@ module _ {d : ℕ} {s : List ℕ} {p : ℕ} where
   product-framed {h} {E} {k} {n} r e = record {
     given = r .given;
     marks = r .marks;
-    wide = ap width e ∙ width-row k (d - 1) s n (p + 1);
+    wide = product-wide (d - 1) s k n (p + 1) (structural.standing d s p) e;
     same = λ fr bit. record { same = r .same _ ∙ ap (mapO (λ rs. mark-of h n ∷ rs)) (ap (λ t. product k (d - 1) s n (p + 1) (shape-at t fr bit)) e ∙ product-row k (d - 1) s n (p + 1) fr bit) };
   }
 
@@ -188,7 +158,7 @@ module _ {d : ℕ} {s : List ℕ} {p : ℕ} where
   unfolding standing
   payload-framed {E} {n} r e = record {
     given = r .given;
-    wide = ap width e ∙ width-row Types (d - 1) s n (p + 1);
+    wide = product-wide (d - 1) s Types n (p + 1) (structural.standing d s p) e;
     same = λ fr bit. r .same _ ∙ ap (λ t. product Types (d - 1) s n (p + 1) (shape-at t fr bit)) e ∙ product-row Types (d - 1) s n (p + 1) fr bit;
   }
 

@@ -13,18 +13,17 @@ use Rattle.model.specs.Balanced.{btree, fold}
 use Rattle.model.specs.Structural.{SType, 𝟙, _⊗_, SValue, block-type}
 use Rattle.model.specs.ValueFiles.{Rec}
 use Rattle.model.specs.Frames.{width}
-use Rattle.model.specs.Laws.Balanced.{btree-leaves}
-use Rattle.model.specs.Laws.Sizes.{fold-none, width-all, width-product, width-block}
+use Rattle.model.specs.Laws.Sizes.{width-block}
 use Rattle.structural.specs.Forms as structural
 use Rattle.told.specs.declared.Parts.{Parts}
 use Rattle.told.specs.declared.Parts.the-variants.{Copies}
 use Rattle.told.specs.Forms.{after}
 use Rattle.record.specs.Trees.{part, product, elements, numbered}
 use Rattle.record.specs.Trees as trees
-use Rattle.accept.specs.Forms.{shape-at, shapes-at, tag-at, types-in, row-width, block-at, elements-at}
+use Rattle.accept.specs.Forms.{shape-at, shapes-at, tag-at, types-in, block-at, elements-at}
 use Rattle.accept.specs.Laws.Products.{product-shapes}
 use Rattle.accept.specs.Laws.Lists.{list-shapes}
-use Rattle.accept.specs.Laws.Seen.{length-types}
+use Rattle.accept.specs.Laws.Seen.{length-types, length-shapes, types-copies}
 use Rattle.unframe.specs.Forms.{standing, both, row, block, both-numbered, blocks, listed}
 
 -- PRODUCTS
@@ -38,26 +37,6 @@ row-shapes k d s (suc n) p fr bit = ap (both (standing d s p fr bit)) (row-shape
 pub product-row : (k : Parts) (d : ℕ) (s : List ℕ) (n p : ℕ) (fr : List ℕ) (bit : ℕ) → product k d s n p (shape-at (fold _⊗_ 𝟙 (btree n) (types-in k d s n p)) fr bit) ≡ row k d s n p fr bit
 unfolding product
 product-row k d s n p fr bit = ap (λ o. bindO o (λ xs. trees.row k d s n p xs)) (product-shapes n (types-in k d s n p) fr bit (length-types k d s n p)) ∙ row-shapes k d s n p fr bit
-
--- and the bits that they take
-width-types : (k : Parts) (d : ℕ) (s : List ℕ) (n p : ℕ) → width-all (types-in k d s n p) ≡ row-width k d s n p
-unfolding types-in row-width
-width-types k d s zero p = refl
-width-types k d s (suc n) p = ap (λ w. width (structural.standing d s p) + w) (width-types k d s n (after k d s p))
-
-width-fold : (n : ℕ) (ts : List SType) → length ts ≡ n → width (fold _⊗_ 𝟙 (btree n) ts) ≡ width-all ts
-width-fold zero [] h = ap width (fold-none _⊗_ 𝟙)
-width-fold zero (t ∷ ts) h = absurd (omega arith)
-width-fold (suc n) ts h = width-product (btree (suc n)) ts (h ∙ sym (btree-leaves (suc n) (omega arith)))
-
-pub width-row : (k : Parts) (d : ℕ) (s : List ℕ) (n p : ℕ) → width (fold _⊗_ 𝟙 (btree n) (types-in k d s n p)) ≡ row-width k d s n p
-width-row k d s n p = width-fold n (types-in k d s n p) (length-types k d s n p) ∙ width-types k d s n p
-
--- n of one type
-pub width-copies : (d : ℕ) (s : List ℕ) (n p : ℕ) → row-width Copies d s n p ≡ n * width (structural.standing d s p)
-unfolding row-width after
-width-copies d s zero p = omega arith
-width-copies d s (suc n) p = omega (arith, width-copies d s n p)
 
 -- LISTS
 
@@ -89,20 +68,11 @@ module _ (d : ℕ) (s : List ℕ) (p : ℕ) where
       go m n (some us) none = refl
       go m n (some us) (some vs) = refl
 
-  types-copies : (n : ℕ) → types-in Copies d s n p ≡ replicate n (structural.standing d s p)
-  unfolding types-in after
-  types-copies zero = refl
-  types-copies (suc n) = ap {B = List SType} (λ l. structural.standing d s p ∷ l) (types-copies n)
-
-  length-shapes : (ts : List SType) (fr : List ℕ) (bit : ℕ) → length (shapes-at ts fr bit) ≡ length ts
-  length-shapes [] fr bit = refl
-  length-shapes (t ∷ ts) fr bit = ap suc (length-shapes ts fr (bit + width t))
-
   copies-row : (n : ℕ) (fr : List ℕ) (bit : ℕ) → copies (shapes-at (replicate n (structural.standing d s p)) fr bit) ≡ numbered n (row Copies d s n p fr bit)
   copies-row n fr bit =
       let ts = replicate n (structural.standing d s p) in
       ap (λ m. numbered m (trees.row Copies d s m p (shapes-at ts fr bit))) (length-shapes ts fr bit ∙ length-replicate n (structural.standing d s p))
-      ∙ ap (λ ts. numbered n (trees.row Copies d s n p (shapes-at ts fr bit))) (sym (types-copies n))
+      ∙ ap (λ ts. numbered n (trees.row Copies d s n p (shapes-at ts fr bit))) (sym (types-copies d s p n))
       ∙ ap (numbered n) (row-shapes Copies d s n p fr bit)
 
   block-copies : (n : ℕ) (fr : List ℕ) (bit : ℕ) → copies (block-at n (structural.standing d s p) fr bit) ≡ block d s n p fr bit

@@ -2,35 +2,21 @@
 use mathlib.Core.Path.{_≡_, refl, sym, ap, _∙_}
 use mathlib.Core.Bool.{true, false}
 use mathlib.Core.List.{List, [], _∷_}
-use Prim.Native.Nat.{ℕ, zero, suc, _+_, _-_, _≤_, _<_, max}
-use native.Mathlib.Nat.{zero-add, suc-add}
+use Prim.Native.Nat.{ℕ, suc, _+_, _-_, _≤_, max}
 use native.Mathlib.Omega.{arith}
-use lib.ListN.{getD, take, drop}
-use Rattle.model.specs.Balanced.{BTree, leaf, fork, leaves, btree, btree-split-index, fold}
+use lib.ListN.{take, drop}
+use Rattle.model.specs.Balanced.{BTree, leaf, fork, leaves, btree, fold}
 use Rattle.model.specs.Structural.{SType, 𝟙, _⊕_}
 use Rattle.model.specs.Frames.{width}
-use Rattle.model.specs.Laws.Balanced.{split-bounds, btree-fork}
+use Rattle.model.specs.Laws.Balanced.{Shares, btree-fork}
 use Rattle.told.specs.Forms.{hops, Hops}
+use Rattle.told.specs.Laws.Hops.{hops-add}
 use Rattle.accept.specs.Forms.{tag-at, choice-in}
 use Rattle.accept.specs.Laws.Sums.{choice-one, choice-left, choice-right}
 use Rattle.unframe.specs.declared.Choice.{Choice}
 use Rattle.unframe.specs.Forms.{height, Chosen}
 
 -- THE RECORDS OF CHOICES
-
-hops-add : (E : List ℕ) (m n p : ℕ) → hops E (m + n) p ≡ hops E n (hops E m p)
-unfolding hops
-hops-add E zero n p = ap (λ i. hops E i p) (zero-add n)
-hops-add E (suc m) n p = ap (λ i. hops E i p) (suc-add m n) ∙ hops-add E m n (getD E p 0)
-
--- the left side has at least one choice, and so has the right side
-pub record Shares (n few : ℕ) : Type 0 where
-  pub split : few ≡ btree-split-index n
-  pub some : 1 ≤ few
-  pub less : few < n
-
-pub shares : {n few : ℕ} → few ≡ btree-split-index n → 1 ≤ n → (n ≡ 1 → ⊥) → Shares n few
-shares {n} e l o = let b = split-bounds n (omega arith) in record { split = e; some = omega arith; less = omega arith }
 
 module _ {n few : ℕ} (h : Shares n few) {E : List ℕ} {p : ℕ} (g : Hops E n p) where
   pub left-hops : Hops E few p

@@ -47,7 +47,7 @@ module _ (s E : List ℕ) (fr : List ℕ) (v : Value (tree 32 s 0)) (g : Given 3
   lowered = standing-is g
 
   -- the records that stand there
-  pub whole-standing : standing 32 s 0 fr 0 ≡ some (encode (tree 32 s 0) v)
+  whole-standing : standing 32 s 0 fr 0 ≡ some (encode (tree 32 s 0) v)
   unfolding standing shape-at value-in
   whole-standing =
       ap (λ a. part 32 s 0 (shape-at a fr 0)) lowered

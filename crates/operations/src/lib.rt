@@ -1,0 +1,186 @@
+// What the entries do once a type file was read (`entries`): the rows behind the type's, and the result.
+// Each takes what `read_type` answered and the columns that it handed out, and is called by the public entry of its name.
+use accept::Accepted;
+use accept::accept;
+use edit::edit_part;
+use edit::read_part;
+use entries::Read;
+use rebuild::Records;
+use rebuild::ShapeAnswer;
+use rebuild::check_shape;
+use rebuild::value_records;
+use reply::Refusal;
+use reply::Reply;
+use restore::write_value;
+use structural::write_lowered;
+use value::Checked;
+use value::check_file;
+ghost use mathlib.Core.Path.{_≡_};
+ghost use mathlib.Core.Bool.{true, false};
+ghost use Rattle.model.specs.Edits.{Edited};
+ghost use Rattle.model.specs.Frames.{after};
+ghost use Rattle.model.specs.Operations.{lowered, shaped, reconstructed, framed, unframed, part-read, edited, delivered};
+ghost use Rattle.reply.specs.Numbers.{numberOf, lengthOf};
+ghost use Rattle.entries.specs.Answers.{TypeRead};
+
+// The ends stand in the first half of the columns, the widths in the second.
+const RECORDS: usize = 1024;
+
+// Writes the lowered type of a type file over the front of `out`, and answers its length; every byte behind it stays, and all of them where it is refused.
+pub fn lower(ty: &[u8], read: Read, columns: &[usize], out: &mut [u8]) -> Reply
+    requires { ⌜ TypeRead true (now ty) read (now columns) ⌝ }
+    ensures { λ r. ⌜ (numberOf r, lengthOf r, now (out .exit)) ≡ delivered (lowered (now (ty .entry))) (now (out .entry)) ⌝ }
+{
+    match read {
+        Read::Refused(x) => Reply::Refused(x),
+        Read::Root(root) => {
+            if out.len() < root.size {
+                return Reply::Refused(Refusal::NoRoom);
+            }
+            let ends = &columns[..RECORDS];
+            Reply::Done(write_lowered(ty, ends, 0, 32, out))
+        }
+    }
+}
+
+// Writes the shape of a value over the front of `out`, and answers its length; every byte behind it stays, and all of them where it is refused.
+pub fn write_shape(ty: &[u8], read: Read, columns: &[usize], value: &[u8], out: &mut [u8]) -> Reply
+    requires { ⌜ TypeRead true (now ty) read (now columns) ⌝ }
+    ensures { λ r. ⌜ (numberOf r, lengthOf r, now (out .exit)) ≡ delivered (shaped (now (ty .entry)) (now (value .entry))) (now (out .entry)) ⌝ }
+{
+    match read {
+        Read::Refused(x) => Reply::Refused(x),
+        Read::Root(_) => {
+            let ends = &columns[..RECORDS];
+            match check_file(ty, ends, value) {
+                Checked::Bad(x) => Reply::Refused(x),
+                Checked::Next(_, size) => {
+                    if out.len() < size {
+                        return Reply::Refused(Refusal::NoRoom);
+                    }
+                    Reply::Done(shape::write_shape(ty, ends, value, out))
+                }
+            }
+        }
+    }
+}
+
+// Writes the value file that a shape gives as one of the type over the front of `out`, and answers its length; every byte behind it stays, and all of them where it is refused.
+// It needs no lowering: a Never is refused only where the shape reaches it.
+pub fn reconstruct(ty: &[u8], read: Read, columns: &[usize], shape: &[u8], out: &mut [u8]) -> Reply
+    requires { ⌜ TypeRead false (now ty) read (now columns) ⌝ }
+    ensures { λ r. ⌜ (numberOf r, lengthOf r, now (out .exit)) ≡ delivered (reconstructed (now (ty .entry)) (now (shape .entry))) (now (out .entry)) ⌝ }
+{
+    match read {
+        Read::Refused(x) => Reply::Refused(x),
+        Read::Root(_) => {
+            let ends = &columns[..RECORDS];
+            match check_shape(shape) {
+                ShapeAnswer::Refused(x) => Reply::Refused(x),
+                ShapeAnswer::Ok => match value_records(ty, ends, shape) {
+                    Records::Not => Reply::Refused(Refusal::NotReconstructed),
+                    Records::Of(n) => {
+                        if out.len() < n * 36 {
+                            return Reply::Refused(Refusal::NoRoom);
+                        }
+                        Reply::Done(write_value(ty, ends, shape, out))
+                    }
+                },
+            }
+        }
+    }
+}
+
+// Writes the frame of a value over the front of `out`, and answers its length; every byte behind it stays, and all of them where it is refused.
+pub fn write_frame(ty: &[u8], read: Read, columns: &[usize], value: &[u8], out: &mut [u8]) -> Reply
+    requires { ⌜ TypeRead true (now ty) read (now columns) ⌝ }
+    ensures { λ r. ⌜ (numberOf r, lengthOf r, now (out .exit)) ≡ delivered (framed after (now (ty .entry)) (now (value .entry))) (now (out .entry)) ⌝ }
+{
+    match read {
+        Read::Refused(x) => Reply::Refused(x),
+        Read::Root(_) => {
+            let ends = &columns[..RECORDS];
+            let widths = &columns[RECORDS..];
+            match check_file(ty, ends, value) {
+                Checked::Bad(why) => Reply::Refused(why),
+                Checked::Next(_, _) => {
+                    let bytes = (widths[0] + 7) / 8;
+                    if out.len() < bytes {
+                        return Reply::Refused(Refusal::NoRoom);
+                    }
+                    Reply::Done(frame::write_frame(ty, ends, widths, value, out))
+                }
+            }
+        }
+    }
+}
+
+// Writes the value file of an accepted frame over the front of `out`, and answers its length; every byte behind it stays, and all of them where it is refused.
+pub fn read_frame(ty: &[u8], read: Read, columns: &[usize], frame: &[u8], out: &mut [u8]) -> Reply
+    requires { ⌜ TypeRead true (now ty) read (now columns) ⌝ }
+    ensures { λ r. ⌜ (numberOf r, lengthOf r, now (out .exit)) ≡ delivered (unframed after (now (ty .entry)) (now (frame .entry))) (now (out .entry)) ⌝ }
+{
+    match read {
+        Read::Refused(x) => Reply::Refused(x),
+        Read::Root(_) => {
+            let ends = &columns[..RECORDS];
+            let widths = &columns[RECORDS..];
+            match accept(ty, ends, widths, frame) {
+                Accepted::Refused(x) => Reply::Refused(x),
+                Accepted::Records(n) => {
+                    let len = n * 36;
+                    if out.len() < len {
+                        return Reply::Refused(Refusal::NoRoom);
+                    }
+                    Reply::Done(unframe::write_value(ty, ends, widths, frame, out))
+                }
+            }
+        }
+    }
+}
+
+// Writes the value file of the part that a path leads to in an accepted frame over the front of `out`, and answers its length; every byte behind it stays, and all of them where it is refused.
+pub fn part_read(
+    ty: &[u8],
+    read: Read,
+    columns: &[usize],
+    frame: &[u8],
+    path: &[u8],
+    out: &mut [u8],
+) -> Reply
+    requires { ⌜ TypeRead true (now ty) read (now columns) ⌝ }
+    ensures { λ r. ⌜ (numberOf r, lengthOf r, now (out .exit)) ≡ delivered (part-read after (now (ty .entry)) (now (frame .entry)) (now (path .entry))) (now (out .entry)) ⌝ }
+{
+    match read {
+        Read::Refused(x) => Reply::Refused(x),
+        Read::Root(_) => {
+            let ends = &columns[..RECORDS];
+            let widths = &columns[RECORDS..];
+            read_part(ty, ends, widths, frame, path, out)
+        }
+    }
+}
+
+// Replaces the part that a path leads to in an accepted frame by a value of the part's type, in the frame's own bytes, and answers the frame's length; no bit outside the part's own stretch changes, and none at all where it is refused.
+// The second promise is demand 3, whole.
+pub fn part_edit(
+    ty: &[u8],
+    read: Read,
+    columns: &[usize],
+    frame: &mut [u8],
+    path: &[u8],
+    value: &[u8],
+) -> Reply
+    requires { ⌜ TypeRead true (now ty) read (now columns) ⌝ }
+    ensures { λ r. ⌜ (numberOf r, lengthOf r, now (frame .exit)) ≡ delivered (edited after (now (ty .entry)) (now (frame .entry)) (now (path .entry)) (now (value .entry))) (now (frame .entry)) ⌝ }
+    ensures { λ r. ⌜ Edited after (now (ty .entry)) (now (frame .entry)) (now (path .entry)) (now (value .entry)) (numberOf r) (lengthOf r) (now (frame .exit)) ⌝ }
+{
+    match read {
+        Read::Refused(x) => Reply::Refused(x),
+        Read::Root(_) => {
+            let ends = &columns[..RECORDS];
+            let widths = &columns[RECORDS..];
+            edit_part(ty, ends, widths, frame, path, value)
+        }
+    }
+}

@@ -291,7 +291,7 @@ fn see_list(
 }
 
 // Rows 11 and 12 of a frame: how many records the value file has whose frame it is, 36 bytes each, or why it is refused.
-// The type file is one that lowers, with its table.
+// The type file is one that lowers, with its ends and widths.
 pub fn accept(ty: &[u8], ends: &[usize], widths: &[usize], frame: &[u8]) -> Accepted
     requires { ⌜ Given 32 false (now ty) (now ends) 0 ⌝ }
     requires { ⌜ Wide (now ty) (now ends) (now widths) ⌝ }

@@ -1,4 +1,4 @@
--- What an entry knows at each of its answers: `Delivering` for every entry, then a file for each.
+-- What an operation knows at each of its answers: `Delivering` for every operation, then a file for each.
 pub mod Delivering
 pub mod Values
 pub mod Lowers

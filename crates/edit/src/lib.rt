@@ -1,4 +1,4 @@
-// Part read and part edit of a frame (01, 'Part read and part edit'; ported from no Rust file), for a type that lowers, with its tables.
+// Part read and part edit of a frame (01, 'Part read and part edit'; ported from no Rust file), for a type that lowers, with its ends and widths.
 use accept::Accepted;
 use accept::accept;
 use accept::part_records;

@@ -1,12 +1,16 @@
 -- The table of entries as lists: what is put down in it, and what is handed out of it.
 use mathlib.Core.List.{List}
-use Prim.Native.Nat.{ℕ, zero, suc, _+_}
+use Prim.Native.Nat.{ℕ, zero, suc, _+_, _%_}
 use lib.ListN.{getD, set}
 use Rattle.entries.specs.declared.Entry.{Entry}
 
--- entry i of three columns
+-- one more than 32 bits hold
+abbrev pub word : ℕ
+word = 4294967296
+
+-- entry i of three columns, each number as 32 bits hold it
 abbrev pub entry-at : List ℕ → List ℕ → List ℕ → ℕ → Entry
-entry-at E S W i = record { end = getD E i 0; size = getD S i 0; width = getD W i 0 }
+entry-at E S W i = record { end = getD E i 0 % word; size = getD S i 0 % word; width = getD W i 0 % word }
 
 -- what stands past a table's end
 abbrev pub no-entry : Entry

@@ -1,14 +1,14 @@
 -- What a type file that was read gives: its answer, its ends and its widths as the laws of `delivery` ask for them.
-use mathlib.Core.Path.{_≡_, sym, ap, subst}
+use mathlib.Core.Path.{_≡_, ap, subst}
 use mathlib.Core.Bool.{Bool, true, false}
 use mathlib.Core.List.{List}
 use Prim.Native.Nat.{ℕ, _-_, _≤_}
 use native.Mathlib.Omega.{arith}
-use lib.ListN.{length, getD, take, drop, length-drop}
-use lib.Seq.{length-take-le, take-all}
+use lib.ListN.{length, getD, take, drop}
 use Rattle.reply.specs.declared.Refusal.{Refusal}
 use Rattle.types.specs.declared.TypeAnswer.the-variants.{Ok, Refused}
 use Rattle.types.specs.Table.{Checked}
+use Rattle.table.specs.Halves.{second-half, first-count, second-long}
 use Rattle.table.specs.Tabled.{Tabled}
 use Rattle.entries.specs.declared.Entry.{Entry}
 use Rattle.entries.specs.declared.Read.{Read}
@@ -21,16 +21,13 @@ widths-in C = take (length C - 1024) (drop 1024 C)
 
 module _ {b : Bool} {s C : List ℕ} {r : Read} (p : TypeRead b s r C) where
   pub ends-count : 1024 ≡ length (take 1024 C)
-  ends-count = sym (length-take-le 1024 C (omega (arith, p .long)))
-
-  widths-are : widths-in C ≡ drop 1024 C
-  widths-are = take-all (length C - 1024) (drop 1024 C) (omega (arith, length-drop 1024 C))
+  ends-count = first-count C (omega (arith, p .long))
 
   pub widths-long : 1024 ≤ length (widths-in C)
-  widths-long = rw widths-are (omega (arith, length-drop 1024 C, p .long))
+  widths-long = rw (second-half C) (second-long C (p .long))
 
 pub given-table : {s C : List ℕ} {r : Read} (p : TypeRead true s r C) → Tabled s (answered r) (take 1024 C) (p .sizes) (widths-in C)
-given-table p = rw (widths-are p) (p .typed)
+given-table {s} {C} p = rw (second-half C) (p .typed)
 
 pub given-ends : {s C : List ℕ} {r : Read} → TypeRead false s r C → Checked s (answered r) (take 1024 C)
 given-ends p = p .typed

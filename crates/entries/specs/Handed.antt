@@ -5,11 +5,11 @@
 --     handed-end       number i of the columns is entry i's end
 --     handed-width     number 1,024 + i is its width
 -- Assumes nothing.
-use mathlib.Core.Path.{_≡_, refl, _∙_}
+use mathlib.Core.Path.{_≡_, refl, sym, _∙_, ap}
 use mathlib.Core.Logic.{⊎-elim}
 use mathlib.Core.List.{List}
 use Prim.Native.Nat.{ℕ, zero, suc, _+_, _<_, _≤_}
-use native.Mathlib.Nat.{eq-or-lt-of-le}
+use native.Mathlib.Nat.{add-zero, add-suc, eq-or-lt-of-le}
 use native.Mathlib.Omega.{arith}
 use lib.ListN.{length, getD, set, length-set}
 use lib.Seq.{getD-set-same, getD-set-other}
@@ -19,16 +19,15 @@ use Rattle.entries.specs.Entries.{no-entry, handed}
 pub length-handed : (n : ℕ) (t : List Entry) (c : List ℕ) → length (handed n t c) ≡ length c
 unfolding handed
 length-handed zero t c = refl
-length-handed (suc n) t c =
-    length-set (set (handed n t c) n (getD t n no-entry .end)) (1024 + n) (getD t n no-entry .width) ∙ length-set (handed n t c) n (getD t n no-entry .end) ∙ length-handed n t c
+length-handed (suc n) t c = length-set (set (handed n t c) _ _) _ _ ∙ length-set (handed n t c) _ _ ∙ length-handed n t c
 
 pub handed-none : (t : List Entry) (c : List ℕ) → c ≡ handed 0 t c
 unfolding handed
 handed-none t c = refl
 
-pub handed-next : (n : ℕ) (t : List Entry) (c : List ℕ) → set (set (handed n t c) n (getD t n no-entry .end)) (1024 + n) (getD t n no-entry .width) ≡ handed (suc n) t c
+pub handed-next : (n : ℕ) (t : List Entry) (c : List ℕ) → set (set (handed n t c) n (getD t n no-entry .end)) (1024 + n) (getD t n no-entry .width) ≡ handed (n + 1) t c
 unfolding handed
-handed-next n t c = refl
+handed-next n t c = ap (λ (k : ℕ). handed k t c) (sym (add-suc n zero ∙ ap suc (add-zero n)))
 
 pub handed-end : (n : ℕ) (t : List Entry) (c : List ℕ) (i : ℕ) → i < n → n ≤ 1024 → length c ≡ 2048 → getD (handed n t c) i 0 ≡ getD t i no-entry .end
 unfolding handed

@@ -8,16 +8,19 @@ ghost use mathlib.Core.Path.{_≡_};
 ghost use Prim.Native.Nat.{_<_, _≤_};
 ghost use lib.ListN.{length, take, drop};
 ghost use Rattle.entries.specs.Entries.{entry-at, filled, handed};
-ghost use Rattle.entries.specs.Answers.{records-in, read-as, Typed, TypeRead};
+ghost use Rattle.entries.specs.Answers.{records-in, read-as, Typed, TableRead};
 
 // The most records that a type file has.
 const RECORDS: usize = 1024;
 
-// What is known of a type record: where its subtree ends, the records of what it lowers to and the bits of its frame; of a Variant, its payload type's.
+// One more than 32 bits hold.
+const WORD: usize = 4294967296;
+
+// What is known of a type record: where its subtree ends, the records of what it lowers to and the bits of its frame; of a Variant, its payload type's. All are below 2^17, so 32 bits hold them.
 pub struct Entry {
-    pub end: usize,
-    pub size: usize,
-    pub width: usize,
+    pub end: u32,
+    pub size: u32,
+    pub width: u32,
 }
 
 impl Entry {
@@ -41,14 +44,14 @@ fn entry_of(ends: &[usize], facts: &[usize], i: usize) -> Entry
     ensures { λ r. ⌜ r ≡ entry-at (now (ends .entry)) (take 1024 (now (facts .entry))) (drop 1024 (now (facts .entry))) i ⌝ }
 {
     Entry {
-        end: ends[i],
-        size: facts[i],
-        width: facts[RECORDS + i],
+        end: (ends[i] % WORD) as u32,
+        size: (facts[i] % WORD) as u32,
+        width: (facts[RECORDS + i] % WORD) as u32,
     }
 }
 
 // Puts the first n entries of the ends and the facts down in the table.
-pub fn fill(table: &mut [Entry], ends: &[usize], facts: &[usize], n: usize)
+fn fill(table: &mut [Entry], ends: &[usize], facts: &[usize], n: usize)
     requires { ⌜ (n ≤ length (now table)) × (n ≤ length (now ends)) × (n ≤ 1024) × (length (now facts) ≡ 2048) ⌝ }
     ensures { λ _. ⌜ now (table .exit) ≡ filled n (now (ends .entry)) (take 1024 (now (facts .entry))) (drop 1024 (now (facts .entry))) (now (table .entry)) ⌝ }
 {
@@ -60,15 +63,15 @@ pub fn fill(table: &mut [Entry], ends: &[usize], facts: &[usize], n: usize)
 }
 
 // Hands the first n ends and widths of the table out: the ends go to the first half of the columns, the widths to the second.
-pub fn hand_out(table: &[Entry], columns: &mut [usize], n: usize)
+fn hand_out(table: &[Entry], columns: &mut [usize], n: usize)
     requires { ⌜ (n ≤ 1024) × (n ≤ length (now table)) × (length (now columns) ≡ 2048) ⌝ }
     ensures { λ _. ⌜ now (columns .exit) ≡ handed n (now (table .entry)) (now (columns .entry)) ⌝ }
 {
     let mut i = 0;
     while i < n {
         let e = table[i];
-        columns[i] = e.end;
-        columns[RECORDS + i] = e.width;
+        columns[i] = e.end as usize;
+        columns[RECORDS + i] = e.width as usize;
         i += 1;
     }
 }
@@ -108,7 +111,7 @@ fn measure_type(ty: &[u8], lowers: bool, ends: &mut [usize], facts: &mut [usize]
 // Reads a type file into the table and hands its columns out, which are room for the sizes and widths while it is measured: the first entry, or why the file is refused, by rows 1 to 7, or 1 to 5 where it need not lower.
 pub fn read_type(ty: &[u8], lowers: bool, table: &mut [Entry], columns: &mut [usize]) -> Read
     requires { ⌜ (length (now table) ≡ 1024) × (length (now columns) ≡ 2048) ⌝ }
-    ensures { λ r. ⌜ TypeRead lowers (now (ty .entry)) r (now (columns .exit)) ⌝ }
+    ensures { λ r. ⌜ TableRead lowers (now (ty .entry)) r (now (table .exit)) (now (columns .exit)) ⌝ }
 {
     let mut ends = [0usize; 1024];
     let answer = measure_type(ty, lowers, &mut ends, columns);

@@ -1,1 +1,2 @@
+-- Demand 2, said of the entries.
 pub mod Demands

@@ -34,7 +34,7 @@ pub fn lower(ty: &[u8], read: Read, columns: &[usize], out: &mut [u8]) -> Reply
     match read {
         Read::Refused(x) => Reply::Refused(x),
         Read::Root(root) => {
-            if out.len() < root.size {
+            if out.len() < root.size as usize {
                 return Reply::Refused(Refusal::NoRoom);
             }
             let ends = &columns[..RECORDS];

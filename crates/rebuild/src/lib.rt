@@ -347,7 +347,7 @@ pub fn check_shape(shape: &[u8]) -> ShapeAnswer
 }
 
 // The number of records of the value file that reading the shape gives, 36 bytes each, or that it cannot be read (row 10).
-// The type file is an accepted one with its table of ends; the shape is looked at from its first record on, up to the end of what the type takes.
+// The type file is an accepted one with its ends; the shape is looked at from its first record on, up to the end of what the type takes.
 pub fn value_records(ty: &[u8], ends: &[usize], shape: &[u8]) -> Records
     requires { ⌜ Given 32 false (now ty) (now ends) 0 ⌝ }
     requires { ⌜ length (now shape) ≤ most-shape-records ⌝ }

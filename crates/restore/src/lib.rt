@@ -12,7 +12,6 @@ use record::form_of;
 use record::write_mark;
 use told::Parts;
 use told::hop;
-use types::Head;
 use types::head_at;
 ghost use mathlib.Core.Path.{_≡_};
 ghost use mathlib.Core.Bool.{false};

@@ -1,4 +1,4 @@
-// The table of a type file (01's own, ported from no Rust file), one entry for each record: its end, the records of its lowered type and the bits of its frame.
+// The columns of a type file's table (01's own, ported from no Rust file), a number for each record: its end, and the facts, the records of its lowered type and the bits of its frame.
 // With it rows 6 and 7 are decided. Sizes and widths are cut at 65,537, one more than a lowered type may have records.
 use array::btree_split_index;
 use num::NonZeroPow2Usize;
@@ -65,7 +65,7 @@ fn entry_at(column: &[usize], i: usize) -> usize
     }
 }
 
-// The end of the record at place i; 0 past the table's end.
+// The end of the record at place i; 0 past the column's end.
 pub fn end_at(ends: &[usize], i: usize) -> usize
     ensures { λ r. ⌜ r ≡ getD (now (ends .entry)) i 0 ⌝ }
 {
@@ -281,7 +281,7 @@ fn enter(ty: &[u8], ends: &[usize], facts: &mut [usize], i: usize) -> Flags
     }
 }
 
-// Fills the table of an accepted type file of n records, each entry once, and tells whether a Never stands somewhere and whether something is too large.
+// Puts down the facts of an accepted type file of n records, each once, and tells whether a Never stands somewhere and whether something is too large.
 pub fn measure(ty: &[u8], ends: &[usize], facts: &mut [usize], n: usize) -> Flags
     requires { ⌜ Measurable (now ty) (now ends) (take 1024 (now facts)) (drop 1024 (now facts)) n ⌝ }
     ensures { λ r. ⌜ Measures (now (ty .entry)) r (take 1024 (now (facts .exit))) (drop 1024 (now (facts .exit))) ⌝ }
@@ -301,7 +301,7 @@ pub fn measure(ty: &[u8], ends: &[usize], facts: &mut [usize], n: usize) -> Flag
     }
 }
 
-// Rows 1 to 7: how many records a type file that lowers has, or why it is refused; the table is filled where it is accepted.
+// Rows 1 to 7: how many records a type file that lowers has, or why it is refused; where it is accepted, its ends and facts are put down.
 pub fn tabulate(ty: &[u8], ends: &mut [usize], facts: &mut [usize]) -> TypeAnswer
     requires { ⌜ 1024 ≤ length (now ends) ⌝ }
     requires { ⌜ length (now facts) ≡ 2048 ⌝ }

@@ -145,7 +145,7 @@ pub fn rec_at(ty: &[u8], at: usize) -> Rec
     calls_for(head_at(ty, at))
 }
 
-// The end of the subtree at place `at` goes into the table.
+// The end of the subtree at place `at` goes into the column of ends.
 pub fn mark(ends: &mut [usize], at: usize, w: Walk) -> Walk
     requires { ⌜ at < length (now ends) ⌝ }
     ensures { λ r. ⌜ (r ≡ w) × (now (ends .exit) ≡ marked w at (now (ends .entry))) ⌝ }

@@ -120,7 +120,7 @@ fn enum_tags(n: usize, i: usize, k: usize) -> usize
     enum_tags(n - h, i - h, sum(k, 1))
 }
 
-// The place after i subtrees from p on; 0 past the table's end.
+// The place after i subtrees from p on; 0 past the column's end.
 fn hop_over(ends: &[usize], p: usize, i: usize) -> usize
     ensures { λ r. ⌜ r ≡ hop (now (ends .entry)) i p ⌝ }
 {

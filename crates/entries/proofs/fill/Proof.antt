@@ -267,7 +267,7 @@ module _ {M : Type 1} (𝓤 : URA M) (H : Heap 𝓤) (A : Atoms 𝓤) (W : Given
           within : (i .0 < length (now ends)) × (i .0 < 1024) × (length (now facts) ≡ 2048)
           within = (lt-of-lt-of-le below (enough .1), lt-of-lt-of-le below (enough .2), enough .3)
 
-          bytes : i .0 * 24 < 2 ^ 64
+          bytes : i .0 * 12 < 2 ^ 64
           bytes = place-fits (i .0) (length t) (lt-of-lt-of-le below (enough .0)) room
 
           inside : i .0 < length (F (i .0))

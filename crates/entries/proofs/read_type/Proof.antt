@@ -1,7 +1,7 @@
 -- `entries::read_type` meets its contract: a walk of its MIR, by hand. All that the proof knows of the five functions that it calls is that they meet their contracts.
--- The array of the ends is the function's own, and the lent columns are room for the sizes and the widths. The array is lent to `measure_type` for a lifetime of the call (`Owned.antt`), the columns are lent again (`Again.antt`), and both come back with the type file's. `records_of` counts its records, at most 1,024 (`few-records`).
--- For `fill` the array and the columns are lent as `&` and come back as they were (`Owned.antt`, `Shown.antt`), and the table is lent again and comes back at the list with the records' entries put down. For `hand_out` the table is lent as `&` and comes back as it was, and the columns are given up for good.
--- Then the table's first entry is read, and `read_of` makes the answer of it. `type-read` of `specs/Reading.antt` is that this is what the contract says.
+-- The array of the ends is the function's own, and the lent columns are room for the sizes and the widths. The array is lent to `measure_type` for a lifetime of the call (`Owned.antt`), the columns are lent again (`Relent.antt`), and both come back with the type file's. `records_of` counts its records, at most 1,024 (`few-records`).
+-- For `fill` the array and the columns are lent as `&` and come back as they were (`Owned.antt`, `Relent.antt`), and the table is lent again and comes back at the list with the records' entries put down. For `hand_out` the table is lent as `&` and comes back as it was, and the columns are given up for good.
+-- Then the table's first entry is read, and `read_of` makes the answer of it. `table-read` of `specs/Reading.antt` is that this is what the contract says.
 -- Assumes nothing.
 use mathlib.Core.Path.{_≡_, refl, sym, ap, subst, _∙_}
 use Prim.Native.Nat.{ℕ, _≤_, _<_, _^_}
@@ -53,18 +53,17 @@ use Rattle.types.specs.declared.TypeAnswer.{TypeAnswer}
 use Rattle.types.proofs.TypeAnswer as N
 use Rattle.types.proofs.TypeAnswer.Laws as N′
 use Rattle.entries.specs.Entries.{no-entry, filled, handed}
-use Rattle.entries.specs.Answers.{records-in, read-as, Typed, TypeRead}
-use Rattle.entries.specs.Reading.{few-records, type-read}
+use Rattle.entries.specs.Answers.{records-in, read-as, Typed, TableRead}
+use Rattle.entries.specs.Reading.{few-records, table-read}
 use Rattle.entries.specs.declared.Entry.{Entry}
 use Rattle.entries.specs.declared.Read.{Read}
 use Rattle.entries.proofs.Entry as T
 use Rattle.entries.proofs.Entry.Laws as T′
 use Rattle.entries.proofs.Read as R
 use Rattle.entries.proofs.Read.Laws as R′
-use Rattle.entries.proofs.Turn.{big-lit}
+use Rattle.entries.proofs.Literals.{big-lit}
 use Rattle.entries.proofs.Owned.{Slot, Shared, at-list, repeated, made, lends, back, shares, shares-back, free}
-use Rattle.entries.proofs.Again.{LentAgain, lends-again, comes-back}
-use Rattle.entries.proofs.Shown.{Shown, shows-slice, shown-back}
+use Rattle.entries.proofs.Relent.{Relent, relends, relent-back, Shown, shows-slice, shown-back}
 use Rattle.entries.proofs.measure_type as measure
 use Rattle.entries.proofs.measure_type.Symbol as measure-def
 use Rattle.entries.proofs.measure_type.Symbol.{name as #entries·measure-type}
@@ -116,12 +115,12 @@ few lowers s E S W a n p count = subst (λ (k : ℕ). k ≤ 1024) (sym count) (f
 
 -- what the callees ensure is what the contract says
 answers : (lowers : Bool) (s E S W : List ℕ) (a : TypeAnswer) (n : ℕ) (t t′ : List Entry) (C C′ : List ℕ) (r : Read) → Typed lowers s a E S W → n ≡ records-in a → t′ ≡ filled n E S W t → C′ ≡ handed n t′ C
-    → r ≡ read-as a (getD t′ 0 no-entry) → length t ≡ 1024 → length C ≡ 2048 → TypeRead lowers s r C′
+    → r ≡ read-as a (getD t′ 0 no-entry) → length t ≡ 1024 → length C ≡ 2048 → TableRead lowers s r t′ C′
 answers lowers s E S W a n t t′ C C′ r p count put handed-out answer l m =
-    subst (λ (z : Read). TypeRead lowers s z C′) (sym answer)
-    (subst (TypeRead lowers s (read-as a (getD t′ 0 no-entry))) (sym handed-out)
-    (subst (λ (u : List Entry). TypeRead lowers s (read-as a (getD u 0 no-entry)) (handed n u C)) (sym put)
-    (subst (λ (k : ℕ). TypeRead lowers s (read-as a (getD (filled k E S W t) 0 no-entry)) (handed k (filled k E S W t) C)) (sym count) (type-read lowers s E S W a p t C l m))))
+    subst (λ (z : Read). TableRead lowers s z t′ C′) (sym answer)
+    (subst (TableRead lowers s (read-as a (getD t′ 0 no-entry)) t′) (sym handed-out)
+    (subst (λ (u : List Entry). TableRead lowers s (read-as a (getD u 0 no-entry)) u (handed n u C)) (sym put)
+    (subst (λ (k : ℕ). TableRead lowers s (read-as a (getD (filled k E S W t) 0 no-entry)) (filled k E S W t) (handed k (filled k E S W t) C)) (sym count) (table-read lowers s E S W a p t C l m))))
 
 module _ {M : Type 1} (𝓤 : URA M) (H : Heap 𝓤) (A : Atoms 𝓤) (mem : Memory → SProp 𝓤) (run : Routine → Fun 𝓤) where
   -- the contracts that the proof cites
@@ -293,7 +292,7 @@ module _ {M : Type 1} (𝓤 : URA M) (H : Heap 𝓤) (A : Atoms 𝓤) (W : Given
       qed W (‵ (owns (ShrSlice (named 0) κ₀ u8 ∷ bool ∷ MutSlice (named 1) κ₁ T.the-row ∷ MutSlice (named 2) κ₂ usize ∷ []) a vals) ∷ []) ∵
       fsplit ! $ use1 W (‵ Oty ⊛ ‵ Oty) (shr-slice-copy 𝓤 H A W (named 0) κ₀ u8 .twice ty (v ∷ [])) $ split ! $ frame ! $ frame ! $ fsplit ! $ drop ! $ fsplit ! $ frame ! $ fsplit ! $ keep ! (0 ∷ []) $ done !
 
-  exits : (r : Read) (w : Val) (u : List Entry) (zs : List ℕ) → TypeRead lowers (now ty) r zs → length u ≡ length t → length zs ≡ length c
+  exits : (r : Read) (w : Val) (u : List Entry) (zs : List ℕ) → TableRead lowers (now ty) r u zs → length u ≡ length t → length zs ≡ length c
       → ent 𝓤 (⋆ 𝓤 H A (‵ (flft κ₀ q₀) ∷ ‵ (flft κ₁ q₁) ∷ (‵ (flft κ₂ q₂) ⊛ ‵ ftrue) ∷ ‵ Oty ∷ ‵ (Otab u) ∷ ‵ (finally usize γ′ zs) ∷ ‵ (R.the-row .own r (w ∷ [])) ∷ [])) (Post w)
   exits r w u zs e l m =
       qed W (‵ (flft κ₀ q₀) ∷ ‵ (flft κ₁ q₁) ∷ (‵ (flft κ₂ q₂) ⊛ ‵ ftrue) ∷ ‵ Oty ∷ ‵ (Otab u) ∷ ‵ (finally usize γ′ zs) ∷ ‵ (R.the-row .own r (w ∷ [])) ∷ []) ∵
@@ -322,7 +321,7 @@ module _ {M : Type 1} (𝓤 : URA M) (H : Heap 𝓤) (A : Atoms 𝓤) (W : Given
         -- the array and the columns are lent for lifetimes of the call
         lft-new ! tt (λ ν. lft-new ! tt (λ μ.
         -- [μ; ν; κ₂; κ₀; κ₁; ty; table; columns; ty; _5; _24; …]
-        move ! (7 ∷ 2 ∷ []) $ use2 W (later (some (λ (ε : GName). ‵ (Lent′ μ ε c) ⊛ ‵ (LentAgain usize κ₂ (μ ∷ []) q₂ γ′ b′ o′ ε c)))) (lends-again usize κ₂ (μ ∷ []) q₂ γ′ b′ o′ 𝓤 H A W (named 2) (named 2) c) $ await ! tt $ pick ! (λ ε. split ! $
+        move ! (7 ∷ 2 ∷ []) $ use2 W (later (some (λ (ε : GName). ‵ (Lent′ μ ε c) ⊛ ‵ (Relent usize κ₂ q₂ γ′ b′ o′ (μ ∷ []) c ε)))) (relends usize κ₂ q₂ γ′ b′ o′ 𝓤 H A W (named 2) c (s′ ∷ []) (μ ∷ []) (named 2)) $ await ! tt $ pick ! (λ ε. split ! $
         move ! (9 ∷ []) $ use1 W (later (some (λ (δ : GName). ‵ (Lent ν l₅ δ zeros) ⊛ ‵ (flent (ν ∷ []) (Held usize 1024 l₅ 0 δ))))) (lends usize 1024 𝓤 H A W room (named 1) (ν ∷ []) zeros l₅) $ await ! tt $ pick ! (λ δ. split ! $
         -- [_5; its lender's part; the columns, lent again; what is kept of them; μ; ν; κ₀; κ₁; ty; table; ty; _24; …]
         move ! (6 ∷ 5 ∷ 4 ∷ 8 ∷ 0 ∷ 2 ∷ []) $ group ! 6 $ use1 W (raw (MeasureType 𝓤 H A mem run .pre (to-measure l₅ ν μ δ ε))) (goes-measure l₅ ν μ δ ε wide) $
@@ -338,7 +337,7 @@ module _ {M : Type 1} (𝓤 : URA M) (H : Heap 𝓤) (A : Atoms 𝓤) (W : Given
         move ! (2 ∷ []) $ split ! $ move ! (1 ∷ []) $ facts ! N.the-row (Is N.the-row) (shows 𝓤 H A N.the-row) r (w ∷ []) (λ is. land ! (from ! (stop !)) (init ! 44 refl (EL.lawful N.the-type N′.the-laws 𝓤 H A W tt .typed r _ is .0)) $
         -- the lifetimes are ended, and the array and the columns come back at those lists
         split ! $ move ! (1 ∷ []) $ split ! $ lft-end ! tt $ move ! (0 ∷ 5 ∷ 4 ∷ []) $ use3 W (later (‵ (Slot usize 1024 E l₅))) (back usize 1024 𝓤 H A W (ν ∷ []) δ E l₅) $ await ! tt $
-        move ! (1 ∷ []) $ split ! $ lft-end ! tt $ move ! (0 ∷ 5 ∷ 4 ∷ []) $ use3 W (later (‵ (Ocol F) ⊛ ‵ (flft κ₂ q₂))) (comes-back usize κ₂ (μ ∷ []) q₂ γ′ b′ o′ 𝓤 H A W (named 2) (named 2) c ε F room₂ as-long) $ await ! tt $ split ! $ move ! (2 ∷ []) $ drop ! $
+        move ! (1 ∷ []) $ split ! $ lft-end ! tt $ move ! (0 ∷ 5 ∷ 4 ∷ []) $ use3 W (later (‵ (Ocol F) ⊛ ‵ (flft κ₂ q₂))) (relent-back usize κ₂ q₂ γ′ b′ o′ 𝓤 H A W (named 2) c (s′ ∷ []) (μ ∷ []) (named 2) ε F as-long (refl, room₂)) $ await ! tt $ split ! $ move ! (2 ∷ []) $ drop ! $
         -- `records_of`: [columns; κ₂; _5; κ₀; κ₁; table; ty; _24; …]
         owned ! N.the-row (Is N.the-row) (EL.makes N.the-type N′.the-plain 𝓤 H A) r (w ∷ []) is $ use1 W (raw (RecordsOf 𝓤 H A mem run .pre (to-records r w))) (goes-records r w) $
         calls-at ! fm (RecordsOf 𝓤 H A mem run) known-records (to-records r w) (and-then ! (load ! (from ! (stop !)) (look ! 44 refl)) (no-more !)) (λ u.
@@ -355,9 +354,9 @@ module _ {M : Type 1} (𝓤 : URA M) (H : Heap 𝓤) (A : Atoms 𝓤) (W : Given
         assigns ! (addr ! (from ! (fld ! refl (hop ! (look-in ! 46 (sub ! 0 refl (whole !))) (stop !))))) (from ! (stop !)) (init ! 21 refl (tt, tt)) $
         assigns ! (agg ! (and-then ! (load ! (from ! (stop !)) (look ! 21 refl)) (and-then ! (load ! (from ! (fld ! refl (stop !))) (look-in ! 46 (sub ! 1 refl (whole !)))) (no-more !)))) (from ! (stop !)) (init ! 19 refl (tt, (tt, (record { fits = room₂ .0 }, tt)))) $
         lft-new ! tt (λ τ. lft-new ! tt (λ ν′. lft-new ! tt (λ μ′. move ! (8 ∷ 7 ∷ []) $
-        use2 W (later (some (λ (η : GName). ‵ (MutSlice (named 0) (τ ∷ []) T.the-row .own (x η t) (s ∷ [])) ⊛ ‵ (LentAgain T.the-row κ₁ (τ ∷ []) q₁ γ b o η t)))) (lends-again T.the-row κ₁ (τ ∷ []) q₁ γ b o 𝓤 H A W (named 1) (named 0) t) $ await ! tt $ pick ! (λ η. split ! $
+        use2 W (later (some (λ (η : GName). ‵ (MutSlice (named 0) (τ ∷ []) T.the-row .own (x η t) (s ∷ [])) ⊛ ‵ (Relent T.the-row κ₁ q₁ γ b o (τ ∷ []) t η)))) (relends T.the-row κ₁ q₁ γ b o 𝓤 H A W (named 1) t (s ∷ []) (τ ∷ []) (named 0)) $ await ! tt $ pick ! (λ η. split ! $
         -- [the table, lent again; what is kept of it; μ′; ν′; τ; columns; κ₂; _5; κ₀; ty; _24; …]
-        move ! (5 ∷ 6 ∷ []) $ use2 W (later (some (λ (ε′ : GName). ‵ (Seen′ μ′ ε′ F) ⊛ ‵ (Shown usize κ₂ (μ′ ∷ []) q₂ γ′ b′ o′ F)))) (shows-slice usize κ₂ (μ′ ∷ []) q₂ γ′ b′ o′ F 𝓤 H A W (named 2) (named 2) (s′ ∷ [])) $ await ! tt $ pick ! (λ ε′. split ! $
+        move ! (5 ∷ 6 ∷ []) $ use2 W (later (some (λ (ε′ : GName). ‵ (Seen′ μ′ ε′ F) ⊛ ‵ (Shown usize κ₂ q₂ γ′ b′ o′ (μ′ ∷ []) F)))) (shows-slice usize κ₂ q₂ γ′ b′ o′ 𝓤 H A W (named 2) F (s′ ∷ []) (μ′ ∷ []) (named 2)) $ await ! tt $ pick ! (λ ε′. split ! $
         move ! (7 ∷ []) $ use1 W (later (some (λ (δ′ : GName). ‵ (Seen ν′ l₅ δ′ E) ⊛ ‵ (flent (ν′ ∷ []) (Shared usize 1024 E l₅))))) (shares usize 1024 𝓤 H A W room (named 1) (ν′ ∷ []) E l₅) $ await ! tt $ pick ! (λ δ′. split ! $
         -- [_5; its lender's part; the columns, lent; what is kept of them; the table, lent again; what is kept of it; μ′; ν′; τ; κ₀; ty; _24; …]
         move ! (8 ∷ 7 ∷ 6 ∷ 4 ∷ 0 ∷ 2 ∷ []) $ group ! 6 $ use1 W {i = For-fill l₅ τ ν′ μ′ η δ′ ε′ E F} (raw (Fill 𝓤 H A mem run .pre (to-fill l₅ τ ν′ μ′ η δ′ ε′ E F n))) (goes-fill l₅ τ ν′ μ′ η δ′ ε′ E F n (is-n .1) (within E F n n≤1024 long ends-long wide′)) $
@@ -369,16 +368,16 @@ module _ {M : Type 1} (𝓤 : URA M) (H : Heap 𝓤) (A : Atoms 𝓤) (W : Given
         -- [what says the table's last list; the tokens and the result; the lender's part of _5; what is kept of the columns; what is kept of the table; κ₀; ty; _24; …]
         move ! (1 ∷ []) $ split ! $ move ! (1 ∷ []) $ facts ! unit (Is unit) (shows 𝓤 H A unit) z (y ∷ []) (λ is-z. land ! (from ! (stop !)) (init ! 31 refl (nothing-lawful 𝓤 H A W .typed z _ is-z .0)) $
         -- the lifetimes are ended: the table comes back at that list, and the array and the columns as they were
-        split ! $ lft-end ! tt $ move ! (0 ∷ 5 ∷ 2 ∷ []) $ use3 W (later (‵ (Otab t′) ⊛ ‵ (flft κ₁ q₁))) (comes-back T.the-row κ₁ (τ ∷ []) q₁ γ b o 𝓤 H A W (named 1) (named 0) t η t′ room₁ same) $ await ! tt $ split ! $
+        split ! $ lft-end ! tt $ move ! (0 ∷ 5 ∷ 2 ∷ []) $ use3 W (later (‵ (Otab t′) ⊛ ‵ (flft κ₁ q₁))) (relent-back T.the-row κ₁ q₁ γ b o 𝓤 H A W (named 1) t (s ∷ []) (τ ∷ []) (named 0) η t′ same (refl, room₁)) $ await ! tt $ split ! $
         move ! (2 ∷ []) $ split ! $ lft-end ! tt $ move ! (0 ∷ 4 ∷ []) $ use2 W (later (‵ (Slot usize 1024 E l₅))) (shares-back usize 1024 𝓤 H A W (ν′ ∷ []) E l₅) $ await ! tt $
         let spelt′ : s′ ∷ [] ≡ sliceVal (b′, o′) (length F) ∷ [] = ap (λ (k : ℕ). sliceVal (b′, o′) k ∷ []) (sym as-long) in
-        move ! (1 ∷ []) $ split ! $ lft-end ! tt $ move ! (0 ∷ 5 ∷ []) $ use2 W (later (‵ (Ocol F) ⊛ ‵ (flft κ₂ q₂))) (shown-back usize κ₂ (μ′ ∷ []) q₂ γ′ b′ o′ F 𝓤 H A W (named 2) (named 2) (s′ ∷ []) spelt′ (subst (Room usize) (sym as-long) room₂)) $ await ! tt $ split ! $ move ! (2 ∷ []) $ drop ! $
+        move ! (1 ∷ []) $ split ! $ lft-end ! tt $ move ! (0 ∷ 5 ∷ []) $ use2 W (later (‵ (Ocol F) ⊛ ‵ (flft κ₂ q₂))) (shown-back usize κ₂ q₂ γ′ b′ o′ 𝓤 H A W (named 2) F (s′ ∷ []) (μ′ ∷ []) (named 2) (spelt′, subst (Room usize) (sym as-long) room₂)) $ await ! tt $ split ! $ move ! (2 ∷ []) $ drop ! $
         -- `hand_out`: [columns; κ₂; _5; table; κ₁; κ₀; ty; _24; …]
         assigns ! (addr ! (from ! (fld ! refl (hop ! (look-in ! 48 (sub ! 0 refl (whole !))) (stop !))))) (from ! (stop !)) (init ! 17 refl (tt, tt)) $
         assigns ! (agg ! (and-then ! (load ! (from ! (stop !)) (look ! 17 refl)) (and-then ! (load ! (from ! (fld ! refl (stop !))) (look-in ! 48 (sub ! 1 refl (whole !)))) (no-more !)))) (from ! (stop !)) (init ! 15 refl (tt, (tt, (record { fits = room₁ .0 }, tt)))) $
         assigns ! (addr ! (from ! (fld ! refl (hop ! (look-in ! 46 (sub ! 0 refl (whole !))) (stop !))))) (from ! (stop !)) (init ! 13 refl (tt, tt)) $
         assigns ! (agg ! (and-then ! (load ! (from ! (stop !)) (look ! 13 refl)) (and-then ! (load ! (from ! (fld ! refl (stop !))) (look-in ! 46 (sub ! 1 refl (whole !)))) (no-more !)))) (from ! (stop !)) (init ! 11 refl (tt, (tt, (record { fits = room₂ .0 }, tt)))) $
-        lft-new ! tt (λ ρ. move ! (4 ∷ 5 ∷ []) $ use2 W (later (some (λ (θ : GName). ‵ (ShrSlice (named 0) (ρ ∷ []) T.the-row .own (x θ t′) (s ∷ [])) ⊛ ‵ (Shown T.the-row κ₁ (ρ ∷ []) q₁ γ b o t′)))) (shows-slice T.the-row κ₁ (ρ ∷ []) q₁ γ b o t′ 𝓤 H A W (named 1) (named 0) (s ∷ [])) $ await ! tt $ pick ! (λ θ. split ! $
+        lft-new ! tt (λ ρ. move ! (4 ∷ 5 ∷ []) $ use2 W (later (some (λ (θ : GName). ‵ (ShrSlice (named 0) (ρ ∷ []) T.the-row .own (x θ t′) (s ∷ [])) ⊛ ‵ (Shown T.the-row κ₁ q₁ γ b o (ρ ∷ []) t′)))) (shows-slice T.the-row κ₁ q₁ γ b o 𝓤 H A W (named 1) t′ (s ∷ []) (ρ ∷ []) (named 0)) $ await ! tt $ pick ! (λ θ. split ! $
         -- [the table, lent; what is kept of it; ρ; columns; κ₂; _5; κ₀; ty; _24; …]
         move ! (2 ∷ 4 ∷ 0 ∷ 3 ∷ []) $ group ! 4 $ use1 W (raw (HandOut 𝓤 H A mem run .pre (to-hand ρ θ t′ F n))) (goes-hand ρ θ t′ F n (is-n .1) (n≤1024, enough n (length t′) n≤1024 (same ∙ long), wide′)) $
         calls-at ! fm (HandOut 𝓤 H A mem run) known-hand (to-hand ρ θ t′ F n) (and-then ! (load ! (from ! (stop !)) (look ! 13 refl)) (and-then ! (load ! (from ! (stop !)) (look ! 9 refl)) (and-then ! (load ! (from ! (stop !)) (look ! 39 refl)) (no-more !)))) (λ y′.
@@ -390,7 +389,7 @@ module _ {M : Type 1} (𝓤 : URA M) (H : Heap 𝓤) (A : Atoms 𝓤) (W : Given
         move ! (1 ∷ []) $ split ! $ move ! (1 ∷ []) $ facts ! unit (Is unit) (shows 𝓤 H A unit) z′ (y′ ∷ []) (λ is-z′. land ! (from ! (stop !)) (store ! 30 refl (nothing-lawful 𝓤 H A W .typed z′ _ is-z′ .0)) $
         let spelt : s ∷ [] ≡ sliceVal (b, o) (length t′) ∷ [] = ap (λ (k : ℕ). sliceVal (b, o) k ∷ []) (sym same) in
         let room′ : Room T.the-row (length t′) = subst (Room T.the-row) (sym same) room₁ in
-        split ! $ lft-end ! tt $ move ! (0 ∷ 3 ∷ []) $ use2 W (later (‵ (Otab t′) ⊛ ‵ (flft κ₁ q₁))) (shown-back T.the-row κ₁ (ρ ∷ []) q₁ γ b o t′ 𝓤 H A W (named 1) (named 0) (s ∷ []) spelt room′) $ await ! tt $ split ! $
+        split ! $ lft-end ! tt $ move ! (0 ∷ 3 ∷ []) $ use2 W (later (‵ (Otab t′) ⊛ ‵ (flft κ₁ q₁))) (shown-back T.the-row κ₁ q₁ γ b o 𝓤 H A W (named 1) t′ (s ∷ []) (ρ ∷ []) (named 0) (spelt, room′)) $ await ! tt $ split ! $
         -- `table[0]`: [table; κ₁; κ₂; what says the columns' last list; _5; κ₀; ty; _24; …]
         assigns ! (bin ! (load ! (from ! (fld ! refl (stop !))) (look-in ! 48 (sub ! 0 refl (whole !)))) (lit ! tt) tt) (from ! (stop !)) (init ! 9 refl (tt, tt)) $ rewrite ! 9 (λ (p : ℕ). ‵ (fat fullShare tyPtr l₂₃ 0 (vptr b p))) (zero-add o) refl $
         fsplit ! $ drop ! $ fsplit ! $ opens-slice ! tt T.the-row t′ b o $

@@ -50,7 +50,7 @@ use Rattle.reply.proofs.Reply as S
 use Rattle.reply.proofs.Reply.Laws as S′
 use Rattle.entries.specs.declared.Read.{Read}
 use Rattle.entries.specs.Answers.{TypeRead}
-use Rattle.entries.proofs.Turn.{big-lit}
+use Rattle.entries.proofs.Literals.{big-lit}
 use Rattle.entries.proofs.Owned.{at-list, repeated}
 use Rattle.entries.proofs.Reading.{none, none-val, none-is, val-of, ReadType, Loan, Lent, lends-both, Kept, to-read, asks, Got, Had, takes-back, Shown, shows-columns, frees}
 use Rattle.entries.proofs.Entry as T

@@ -37,6 +37,7 @@ lower-spec =
     (tie.spec
     (λ c. search needs)
     (λ c. search needs)
+    (λ c. search needs)
     no-room
     (λ c. ends-count (c .before .before .before .before .before .before .before .before .before .pre))
     room

@@ -33,10 +33,10 @@
  * The functions take no memory but the stack and keep nothing between calls: they are reentrant, and may be called from
  * any number of threads at once.
  *
- * Stack: lend each of them 128 KiB. That is measured, not proved. Up to 24 KiB are for a table; the rest grows with the type's depth and,
- * except for frames, with the logarithm of the parts at each level. The most that was found on x86-64: 95 KiB for lower and
- * write_shape and 84 for reconstruct, with 31 tuples of 33 parts inside each other; 55 for write_frame and part_edit, with 31
- * lists inside each other; 53 for read_frame and part_read, with 15 enums of 60 variants.
+ * Stack: lend each of them 160 KiB. That is measured, not proved. 28 KiB are for the table of the type and its columns; the rest grows with
+ * the type's depth and, except for frames, with the logarithm of the parts at each level. The most that was found on x86-64: 101 KiB for
+ * reconstruct, 99 for lower and 96 for write_shape, with 31 tuples of 33 parts inside each other; 62 for write_frame and part_edit, with 31
+ * lists inside each other; 57 for read_frame and part_read, with 15 enums of 60 variants.
  */
 #ifndef NIEGLUK_H
 #define NIEGLUK_H

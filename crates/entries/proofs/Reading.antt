@@ -1,5 +1,5 @@
 -- What an entry's walk says of the reading of a type: it owns a table and columns, both made whole, lends them to `read_type`, and has them back with what was read.
---     none, none-val       the entry that the table is first made of, and its machine value
+--     none-val, none-is    the machine value of `no-entry`, which the table is first made of
 --     opd, chosen          whether the type has to lower, as an operand
 --     Lent, lends-both     the table and the columns, as two locals hold them, are lent for two lifetimes of the call
 --     asks                 with the type file and its token that is what `read_type` asks; the lender's parts stay (`Kept`)
@@ -41,6 +41,7 @@ use denote.Triple.Statement.{Contract}
 use denote.Triple.Spec.{tripleOf}
 use denote.Triple.Walked.{says}
 use denote.Triple.Clauses.{ensured, lasts}
+use Rattle.entries.specs.Entries.{no-entry}
 use Rattle.entries.specs.Answers.{TypeRead, TableRead}
 use Rattle.entries.specs.declared.Entry.{Entry}
 use Rattle.entries.specs.declared.Read.{Read}
@@ -50,13 +51,10 @@ use Rattle.entries.proofs.Entry.Laws as T′
 use Rattle.entries.proofs.Read as R
 use Rattle.entries.proofs.read_type as read
 
-abbrev pub none : Entry
-none = record { end = 0; size = 0; width = 0 }
-
 abbrev pub none-val : Val
 none-val = vstruct (vcons (vint w32 0) (vcons (vint w32 0) (vcons (vint w32 0) vnil)))
 
-pub none-is : Is T.the-row none (none-val ∷ [])
+pub none-is : Is T.the-row no-entry (none-val ∷ [])
 none-is = ((vint w32 0 ∷ [], (vint w32 0 ∷ [], (vint w32 0 ∷ [], tt))), (refl, ((refl, lit< tt), ((refl, lit< tt), ((refl, lit< tt), tt)))))
 
 abbrev pub opd : Bool → Operand
@@ -84,7 +82,7 @@ Loan = (ℕ × ℕ) × (GName × GName)
 module _ {M : Type 1} (𝓤 : URA M) (H : Heap 𝓤) (A : Atoms 𝓤) (W : Given 𝓤 H A) (mem : Memory → SProp 𝓤) (run : Routine → Fun 𝓤) (lt lc : ℕ) where
   abbrev pub Lent : Loan → List (Item 𝓤)
   Lent x = ‵ (flft (x .0 .0 ∷ []) fullShare) ∷ ‵ (flft (x .0 .1 ∷ []) fullShare)
-      ∷ ‵ (MutSlice (named 1) (x .0 .0 ∷ []) T.the-row .own (at-list T.the-row 1024 lt (x .1 .0) (replicate 1024 none)) (sliceVal (lt, 0) 1024 ∷ []))
+      ∷ ‵ (MutSlice (named 1) (x .0 .0 ∷ []) T.the-row .own (at-list T.the-row 1024 lt (x .1 .0) (replicate 1024 no-entry)) (sliceVal (lt, 0) 1024 ∷ []))
       ∷ ‵ (MutSlice (named 2) (x .0 .1 ∷ []) usize .own (at-list usize 2048 lc (x .1 .1) (replicate 2048 0)) (sliceVal (lc, 0) 2048 ∷ []))
       ∷ ‵ (flent (x .0 .0 ∷ []) (Held T.the-row 1024 lt 0 (x .1 .0))) ∷ ‵ (flent (x .0 .1 ∷ []) (Held usize 2048 lc 0 (x .1 .1))) ∷ []
 
@@ -92,12 +90,12 @@ module _ {M : Type 1} (𝓤 : URA M) (H : Heap 𝓤) (A : Atoms 𝓤) (W : Given
       (H .⇛ (ex 𝓤 (λ (x : Loan). ⋆ 𝓤 H A (Lent x))))
   lends-both =
       qed W (‵ (fat fullShare (tyArray (lone (T.the-row .mir)) 1024) lt 0 (arrayVal (replicate 1024 none-val))) ∷ ‵ (fat fullShare (tyArray (tyInt w64) 2048) lc 0 (arrayVal (replicate 2048 (vint w64 0)))) ∷ []) ∵ updating ! $
-      owned ! T.the-row (Is T.the-row) (LL.makes T.the-type T′.the-plain 𝓤 H A) none (none-val ∷ []) none-is $ move ! (1 ∷ 0 ∷ []) $
-      use2 W (‵ (Slot T.the-row 1024 (replicate 1024 none) lt)) (made T.the-row 1024 𝓤 H A W tt (LL.copy T.the-type T′.the-copy 𝓤 H A W) none none-val lt) $
+      owned ! T.the-row (Is T.the-row) (LL.makes T.the-type T′.the-plain 𝓤 H A) no-entry (none-val ∷ []) none-is $ move ! (1 ∷ 0 ∷ []) $
+      use2 W (‵ (Slot T.the-row 1024 (replicate 1024 no-entry) lt)) (made T.the-row 1024 𝓤 H A W tt (LL.copy T.the-type T′.the-copy 𝓤 H A W) no-entry none-val lt) $
       owned ! usize (Is usize) (uint-makes 𝓤 H A W w64) 0 (vint w64 0 ∷ []) (refl, lit< tt) $ move ! (2 ∷ 0 ∷ []) $
       use2 W (‵ (Slot usize 2048 (replicate 2048 0) lc)) (made usize 2048 𝓤 H A W tt (uint-copy 𝓤 H A W w64) 0 (vint w64 0) lc) $
       lft-new ! tt (λ ν. lft-new ! tt (λ μ. move ! (3 ∷ []) $
-      use1 W (later (some (λ (δ : GName). ‵ (MutSlice (named 1) (ν ∷ []) T.the-row .own (at-list T.the-row 1024 lt δ (replicate 1024 none)) (sliceVal (lt, 0) 1024 ∷ [])) ⊛ ‵ (flent (ν ∷ []) (Held T.the-row 1024 lt 0 δ))))) (lends T.the-row 1024 𝓤 H A W (lit< tt, lit< tt) (named 1) (ν ∷ []) (replicate 1024 none) lt) $ await ! tt $ pick ! (λ δ. split ! $ move ! (4 ∷ []) $
+      use1 W (later (some (λ (δ : GName). ‵ (MutSlice (named 1) (ν ∷ []) T.the-row .own (at-list T.the-row 1024 lt δ (replicate 1024 no-entry)) (sliceVal (lt, 0) 1024 ∷ [])) ⊛ ‵ (flent (ν ∷ []) (Held T.the-row 1024 lt 0 δ))))) (lends T.the-row 1024 𝓤 H A W (lit< tt, lit< tt) (named 1) (ν ∷ []) (replicate 1024 no-entry) lt) $ await ! tt $ pick ! (λ δ. split ! $ move ! (4 ∷ []) $
       use1 W (later (some (λ (ε : GName). ‵ (MutSlice (named 2) (μ ∷ []) usize .own (at-list usize 2048 lc ε (replicate 2048 0)) (sliceVal (lc, 0) 2048 ∷ [])) ⊛ ‵ (flent (μ ∷ []) (Held usize 2048 lc 0 ε))))) (lends usize 2048 𝓤 H A W (lit< tt, lit< tt) (named 2) (μ ∷ []) (replicate 2048 0) lc) $ await ! tt $ pick ! (λ ε. split ! $
       -- [the columns; their lender's part; the table; its lender's part; μ; ν]
       move ! (5 ∷ 4 ∷ 2 ∷ 0 ∷ 3 ∷ 1 ∷ []) $ at-once ! $ show ! (λ (x : Loan). ⋆ 𝓤 H A (Lent x)) ((ν, μ), (δ, ε)) $ done !))))
@@ -112,16 +110,16 @@ module _ {M : Type 1} (𝓤 : URA M) (H : Heap 𝓤) (A : Atoms 𝓤) (W : Given
 
     -- what is passed
     abbrev pub to-read : Loan → ReadType 𝓤 H A mem run .Ghost
-    to-read x = (((κ, (x .0 .0 ∷ [], (x .0 .1 ∷ [], tt))), (q, (fullShare, (fullShare, tt))), tt, (ty, (lowers, (at-list T.the-row 1024 lt (x .1 .0) (replicate 1024 none), (at-list usize 2048 lc (x .1 .1) (replicate 2048 0), tt)))), (val-of ty ∷ [], (vbool lowers ∷ [], (sliceVal (lt, 0) 1024 ∷ [], (sliceVal (lc, 0) 2048 ∷ [], tt))))), tt)
+    to-read x = (((κ, (x .0 .0 ∷ [], (x .0 .1 ∷ [], tt))), (q, (fullShare, (fullShare, tt))), tt, (ty, (lowers, (at-list T.the-row 1024 lt (x .1 .0) (replicate 1024 no-entry), (at-list usize 2048 lc (x .1 .1) (replicate 2048 0), tt)))), (val-of ty ∷ [], (vbool lowers ∷ [], (sliceVal (lt, 0) 1024 ∷ [], (sliceVal (lc, 0) 2048 ∷ [], tt))))), tt)
 
     pub asks : (x : Loan) → ent 𝓤 (sep 𝓤 (A .lft κ q) (sep 𝓤 (sem 𝓤 H A Ty) (⋆ 𝓤 H A (Lent x)))) (sep 𝓤 (ReadType 𝓤 H A mem run .pre (to-read x)) (Kept x))
     asks x =
         qed W (‵ (flft κ q) ∷ ‵ Ty ∷ Lent x) ∵ move ! (6 ∷ 7 ∷ []) $ join ! $ move ! (1 ∷ 3 ∷ 4 ∷ 2 ∷ 5 ∷ 6 ∷ []) $ group ! 6 $
         use1 W (raw (ReadType 𝓤 H A mem run .pre (to-read x))) (
         qed W (‵ (flft κ q) ∷ ‵ (flft (x .0 .0 ∷ []) fullShare) ∷ ‵ (flft (x .0 .1 ∷ []) fullShare) ∷ ‵ Ty
-        ∷ ‵ (MutSlice (named 1) (x .0 .0 ∷ []) T.the-row .own (at-list T.the-row 1024 lt (x .1 .0) (replicate 1024 none)) (sliceVal (lt, 0) 1024 ∷ []))
+        ∷ ‵ (MutSlice (named 1) (x .0 .0 ∷ []) T.the-row .own (at-list T.the-row 1024 lt (x .1 .0) (replicate 1024 no-entry)) (sliceVal (lt, 0) 1024 ∷ []))
         ∷ ‵ (MutSlice (named 2) (x .0 .1 ∷ []) usize .own (at-list usize 2048 lc (x .1 .1) (replicate 2048 0)) (sliceVal (lc, 0) 2048 ∷ [])) ∷ []) ∵
-        says ! (length-replicate 1024 none, length-replicate {A = ℕ} 2048 0) $ nothing ! $ move ! (1 ∷ 2 ∷ 3 ∷ 0 ∷ []) $ group ! 4 $ frame ! $
+        says ! (length-replicate 1024 no-entry, length-replicate {A = ℕ} 2048 0) $ nothing ! $ move ! (1 ∷ 2 ∷ 3 ∷ 0 ∷ []) $ group ! 4 $ frame ! $
         nothing ! $ move ! (3 ∷ 0 ∷ []) $ fjoin ! $ move ! (2 ∷ 0 ∷ []) $ fjoin ! $ owned ! bool (Is bool) (bool-makes 𝓤 H A W) lowers (vbool lowers ∷ []) refl $ fjoin ! $ move ! (1 ∷ 0 ∷ []) $ fjoin ! $ done !) $ done !
 
     -- what is had back: the answer, and what the table and the columns then hold

@@ -45,11 +45,12 @@ use denote.Triple.Spec.{Meets, tripleOf}
 use denote.Triple.Walked.{says, needs, Stays, stay-none-slice, gave-slice, walkOf, goes-none-slice, goes-gave-slice, Walks, ends-at, walked, walk-meets}
 use denote.Exit.{yes}
 use denote.Triple.Clauses.{Clauses, Ended, closing, ensured, lasts}
+use Rattle.entries.specs.Entries.{no-entry}
 use Rattle.entries.specs.Answers.{TypeRead}
 use Rattle.entries.specs.declared.Read.{Read}
 use Rattle.entries.proofs.Literals.{big-lit}
 use Rattle.entries.proofs.Owned.{at-list, repeated}
-use Rattle.entries.proofs.Reading.{none, none-val, none-is, opd, chosen, val-of, ReadType, Loan, Lent, lends-both, Kept, to-read, asks, Got, Had, takes-back, Shown, shows-columns, frees}
+use Rattle.entries.proofs.Reading.{none-val, none-is, opd, chosen, val-of, ReadType, Loan, Lent, lends-both, Kept, to-read, asks, Got, Had, takes-back, Shown, shows-columns, frees}
 use Rattle.entries.proofs.Entry as T
 use Rattle.entries.proofs.Entry.Laws as T′
 use Rattle.entries.proofs.Read as R
@@ -209,7 +210,7 @@ module _ {M : Type 1} (𝓤 : URA M) (H : Heap 𝓤) (A : Atoms 𝓤) (W : Given
         pass1 ! (init ! 28 refl (tt, (tt, (record { fits = room₀ .0 }, tt)))) $ pass1 ! (init ! 26 refl (tt, (tt, (record { fits = room₁ .0 }, tt)))) $ pass1 ! (init ! 24 refl (tt, (tt, (record { fits = room₂ .0 }, tt)))) $ pass0 ! $
         -- [_15; …; _14; …; … ; _1; …; room for _0; …; the tokens; what the parameters own]
         assigns ! (agg ! (and-then ! (lit ! tt) (and-then ! (lit ! tt) (and-then ! (lit ! tt) (no-more !))))) (from ! (stop !)) (init ! 16 refl (tt, (record { fits = lit< tt }, (record { fits = lit< tt }, (record { fits = lit< tt }, tt))))) $
-        assigns ! (rep ! 1024 (load ! (from ! (stop !)) (look ! 16 refl))) (from ! (stop !)) (init ! 22 refl (repeated T.the-row 1024 𝓤 H A W (LL.lawful T.the-type T′.the-laws 𝓤 H A W) none none-val none-is)) $
+        assigns ! (rep ! 1024 (load ! (from ! (stop !)) (look ! 16 refl))) (from ! (stop !)) (init ! 22 refl (repeated T.the-row 1024 𝓤 H A W (LL.lawful T.the-type T′.the-laws 𝓤 H A W) no-entry none-val none-is)) $
         assigns ! (rep ! 2048 (lit ! tt)) (from ! (stop !)) (init ! 20 refl (repeated usize 2048 𝓤 H A W (uint-lawful 𝓤 H A W w64) 0 (vint w64 0) (refl, lit< tt))) $
         assigns ! (addr ! (from ! (stop !))) (from ! (stop !)) (init ! 14 refl (tt, tt)) $
         assigns ! (agg ! (and-then ! (load ! (from ! (stop !)) (look ! 14 refl)) (and-then ! (big-lit ! (record { fits = lit< tt })) (no-more !)))) (from ! (stop !)) (init ! 12 refl (tt, (tt, (record { fits = lit< tt }, tt)))) $

@@ -1,6 +1,7 @@
 // The table of a type file as 01 names it: a lent slice of structs, one entry for each type record, owned by each public entry.
 // Few functions hold the slice, and each is proved by hand: `fill` puts the table down, `hand_out` copies the columns that the walks go over, `read_type` is the two around the reading of the type.
 use reply::Refusal;
+use table::RECORDS;
 use table::tabulate;
 use types::TypeAnswer;
 use types::check_type;
@@ -9,9 +10,6 @@ ghost use Prim.Native.Nat.{_<_, _≤_};
 ghost use lib.ListN.{length, take, drop};
 ghost use Rattle.entries.specs.Entries.{entry-at, filled, handed};
 ghost use Rattle.entries.specs.Answers.{records-in, read-as, Typed, TableRead};
-
-// The most records that a type file has.
-const RECORDS: usize = 1024;
 
 // One more than 32 bits hold.
 const WORD: usize = 4294967296;

@@ -13,6 +13,7 @@ use reply::Refusal;
 use reply::Reply;
 use restore::write_value;
 use structural::write_lowered;
+use table::RECORDS;
 use value::Checked;
 use value::check_file;
 ghost use mathlib.Core.Path.{_≡_};
@@ -22,9 +23,6 @@ ghost use Rattle.model.specs.Frames.{after};
 ghost use Rattle.model.specs.Operations.{lowered, shaped, reconstructed, framed, unframed, part-read, edited, delivered};
 ghost use Rattle.reply.specs.Numbers.{numberOf, lengthOf};
 ghost use Rattle.entries.specs.Answers.{TypeRead};
-
-// The ends stand in the first half of the columns, the widths in the second.
-const RECORDS: usize = 1024;
 
 // Writes the lowered type of a type file over the front of `out`, and answers its length; every byte behind it stays, and all of them where it is refused.
 pub fn lower(ty: &[u8], read: Read, columns: &[usize], out: &mut [u8]) -> Reply

@@ -8,6 +8,7 @@ use reply::Refusal;
 use reply::refusal_number;
 use shape::write_shape;
 use structural::write_lowered;
+use table::RECORDS;
 use text::write_job;
 use text::write_refusal;
 use value::Checked;
@@ -22,9 +23,6 @@ ghost use Rattle.report.specs.Job.{job-text, Accepted, Printable, Prints
 
 // The most bytes that a file may have.
 const MOST: usize = 65536;
-
-// The ends stand in the first half of the columns, the widths in the second.
-const RECORDS: usize = 1024;
 
 // Writes the line of a refusal, and answers its length.
 fn write_refused(x: Refusal, out: &mut [u8]) -> usize

@@ -19,8 +19,8 @@ ghost use Rattle.table.specs.Measuring.{Measurable, Measures, Entered};
 ghost use Rattle.table.specs.Tabled.{Tabled};
 ghost use Rattle.table.specs.Facts.{cut, entry, sums, sumWidth, product, uintFacts, eitherFacts, optionFacts, arrayFacts, listFacts, enumFacts, factsOf};
 
-// The most records that a type file has: the sizes stand in the first half of a slice of facts, the widths in the second.
-const RECORDS: usize = 1024;
+// The most records that a type file has. The sizes stand in the first half of a slice of facts, the widths in the second.
+pub const RECORDS: usize = 1024;
 
 // The records and the bits of what stands at a type record: of a Variant those of its payload type.
 pub struct Facts {

@@ -4,4 +4,8 @@ pub mod Literals
 pub mod Relent
 pub mod Owned
 pub mod Reading
+pub mod Params
+pub mod Cells
+pub mod Forms
 pub mod Walk
+pub mod Enter

@@ -1,46 +1,23 @@
--- `niegluk::write_shape` meets its contract: a walk of its MIR, by hand, since it owns a table of structs and lends it. The walk is `entries`' `Walk`, at the operation that it calls, which ensures what the entry does.
+-- `niegluk::write_shape` meets its contract: a walk of its MIR, by hand, since it owns a table of structs and lends it. The walk is `entries`' `Walk`, at its parameters and at the operation that it calls, which ensures what the entry does.
 -- Assumes nothing.
 use mathlib.Core.Path.{_≡_}
 use mathlib.Core.Bool.{true}
-use contract.Running.{givenOf, tables, tablesOf}
-use denote.Triple.Spec.{tripleOf}
-use denote.Triple.Table.{entered, cited}
-use denote.Enum.Laws as EL
+use mathlib.Core.List.{[], _∷_}
+use contract.Running.{tablesOf}
 use Rattle.model.specs.Operations.{shaped, delivered}
 use Rattle.reply.specs.Numbers.{numberOf, lengthOf}
-use Rattle.reply.proofs.Reply as S
-use Rattle.reply.proofs.Reply.Laws as S′
-use Rattle.entries.specs.Answers.{TypeRead}
-use Rattle.entries.proofs.Reading.{ReadType}
-use Rattle.entries.proofs.Walk.{Form, Operates, meets}
-use Rattle.entries.proofs.read_type.Symbol as read-def
-use Rattle.entries.proofs.read_type.Symbol.{name as #entries·read-type}
-use Rattle.entries.proofs.read_type.Met as read-thm
-use Rattle.operations.proofs.write_shape.Symbol as op-def
-use Rattle.operations.proofs.write_shape.Symbol.{name as #operations·write-shape}
-use Rattle.operations.proofs.write_shape.Met as op-thm
-use Rattle.niegluk.proofs.write_shape.Key.{name as #niegluk·write-shape}
-use Rattle.niegluk.proofs.write_shape as f
-use Rattle.niegluk.proofs.write_shape.Statement as stated
+use Rattle.entries.proofs.Params.{file, buffer}
+use Rattle.entries.proofs.Forms.{Form, replies}
+use Rattle.entries.proofs.Enter.{enters}
+use Rattle.operations.proofs.write_shape.Symbol as op
+use Rattle.operations.proofs.write_shape.Met.{met}
+use Rattle.niegluk.proofs.write_shape.Key.{name}
+use Rattle.niegluk.proofs.write_shape.Statement.{statement}
 use Rattle.niegluk.proofs.write_shape.Code as code
 
 abbrev form : Form
-form = record {
-  lowers = true;
-  Result = S.the-row;
-  mir = S′.mir;
-  typed = λ 𝓤 H A W r u is. EL.lawful S.the-type S′.the-laws 𝓤 H A W tt .typed r _ is .0;
-  Needs = λ s f o. Unit {0};
-  Asks = λ s r C f o. TypeRead true s r C;
-  asks = λ s f o r C n e. e;
-  Answer = λ s f o o′ r. (numberOf r, lengthOf r, o′) ≡ delivered (shaped s f) o;
-}
+form = replies (file ∷ buffer ∷ []) true (λ s x y r. (numberOf r, lengthOf r, y .1 .0) ≡ delivered (shaped s (x .0)) (x .1 .0))
 
-pub write-shape-spec : {M : Type 1} → stated.statement M
+pub write-shape-spec : {M : Type 1} → statement M
 unfolding code.routine tablesOf
-write-shape-spec 𝓤 H 𝓜 𝓖 𝓡 =
-    entered 𝓤 H (tripleOf 𝓤 H (𝓖 .A) f.signature (f.spec 𝓤 H (𝓖 .A) (𝓜 .mem) (𝓡 .run)))
-    (tables 𝓤 H 𝓜 𝓡 code.env .C) (tables 𝓤 H 𝓜 𝓡 code.env .Λ) #niegluk·write-shape code.function (code.unfolded 𝓤 H 𝓜 𝓡)
-    (meets 𝓤 H (𝓖 .A) (givenOf 𝓤 H 𝓜 𝓖) (𝓜 .mem) (𝓡 .run) form #entries·read-type #operations·write-shape (λ s f o. tt) (tablesOf 𝓤 H 𝓜 (tables 𝓤 H 𝓜 𝓡 code.env))
-    (cited 𝓤 H (ReadType 𝓤 H (𝓖 .A) (𝓜 .mem) (𝓡 .run)) 𝓜 𝓡 code.env #entries·read-type read-def.routine code.calls-entries·read-type (read-thm.met 𝓤 H 𝓜 𝓖 𝓡))
-    (cited 𝓤 H (Operates form 𝓤 H (𝓖 .A)) 𝓜 𝓡 code.env #operations·write-shape op-def.routine code.calls-operations·write-shape (op-thm.met 𝓤 H 𝓜 𝓖 𝓡)))
+write-shape-spec 𝓤 H 𝓜 𝓖 𝓡 = enters 𝓤 H 𝓜 𝓖 𝓡 form code.env name op.name op.routine code.calls-entries·read-type code.calls-operations·write-shape (met 𝓤 H 𝓜 𝓖 𝓡) (code.unfolded 𝓤 H 𝓜 𝓡) (λ s x. tt)

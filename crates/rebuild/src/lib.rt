@@ -20,7 +20,7 @@ ghost use Rattle.rebuild.specs.declared.Parts.the-variants.{Types};
 ghost use Rattle.rebuild.specs.ShapeRows.{ShapeTold};
 ghost use Rattle.rebuild.specs.Reads.{plus, units, passes, bits, value-records};
 ghost use Rattle.structural.specs.Forms.{most-parts, Stands};
-ghost use Rattle.rebuild.specs.Forms.{most-records, Limits, count-of, form-of, skip, Hopped, GivenPart, GivenParts, standing, part, balanced, chosen, block-of, listed};
+ghost use Rattle.rebuild.specs.Forms.{most-records, Limits, count-of, form-of, skip, Hopped, GivenParts, standing, balanced, chosen, block-of, listed};
 
 // The records of a shape, and a byte that is none.
 const UNIT: u8 = 0;
@@ -170,27 +170,6 @@ fn read_record(ty: &[u8], ends: &[usize], at: usize, level: usize, shape: &[u8],
     }
 }
 
-// Reads the part at record `at`.
-fn read_part(
-    ty: &[u8],
-    ends: &[usize],
-    at: usize,
-    level: usize,
-    parts: Parts,
-    shape: &[u8],
-    p: usize,
-) -> Read
-    requires { ⌜ GivenPart parts level (now ty) (now ends) at ⌝ }
-    requires { ⌜ Limits (now shape) level ⌝ }
-    ensures { λ r. ⌜ r ≡ part (now (shape .entry)) parts level (now (ty .entry)) at p ⌝ }
-{
-    match parts {
-        Parts::Bits => read_bit(shape, p),
-        Parts::Copies => read_record(ty, ends, at, level, shape, p),
-        Parts::Types => read_record(ty, ends, at, level, shape, p),
-    }
-}
-
 // The record after n parts from record `at` on.
 fn after(ends: &[usize], at: usize, n: usize, parts: Parts) -> usize
     requires { ⌜ Hopped parts (now ends) n at ⌝ }
@@ -223,7 +202,12 @@ fn read_product(
         return read_any(shape, p);
     }
     if n == 1 {
-        return read_part(ty, ends, at, level, parts, shape, p);
+        // here and not in a function of its own, which would be inlined with slices of its own: the stack's frame stays small
+        return match parts {
+            Parts::Bits => read_bit(shape, p),
+            Parts::Copies => read_record(ty, ends, at, level, shape, p),
+            Parts::Types => read_record(ty, ends, at, level, shape, p),
+        };
     }
     if record_at(shape, p) != PAIR {
         return Read::Not;

@@ -3,18 +3,19 @@ use mathlib.Core.Path.{_≡_, refl, sym, ap, ap₂, subst, _∙_}
 use mathlib.Core.Bool.{Bool, true, false}
 use mathlib.Core.List.{List, [], _∷_, _++_}
 use mathlib.Core.Option.{Option, some, Option·none-ne-some, Option·some-injective}
-use Prim.Native.Nat.{ℕ, zero, suc, _+_, _-_, _^_, _≤_, _<_}
+use Prim.Native.Nat.{ℕ, zero, suc, _+_, _-_, _/_, _^_, _≤_, _<_}
 use native.Mathlib.Omega.{arith}
+use borrow.Author.Tests.{ltb-true}
 use mir.Syntax.{w64}
 use mir.Val.{Fits}
-use lib.Dec.{eqb}
+use lib.Dec.{eqb, ltb}
 use lib.ListN.{length, getD}
 use Rattle.model.specs.Laws.Balanced.{Shares}
 use Rattle.num.specs.declared.NonZeroPow2Usize.{NonZeroPow2Usize}
 use Rattle.num.specs.declared.Bound.{Bound}
 use Rattle.num.specs.declared.Bound.the-variants as bounds
-use Rattle.num.specs.Powers.{half-bound}
-use Rattle.model.specs.Options.{mapO}
+use Rattle.num.specs.Powers.{bound, half-bound}
+use Rattle.model.specs.Options.{pick, mapO}
 use Rattle.model.specs.Bytes.{of-bits}
 use Rattle.model.specs.Structural.{SValue}
 use Rattle.model.specs.Reconstruct.{as-bit}
@@ -23,7 +24,7 @@ use Rattle.model.specs.Laws.Options.{mapO-some}
 use Rattle.types.specs.declared.Head.{Head}
 use Rattle.types.specs.declared.Head.the-variants.{Missing, Faulty, Never, Boolean, UInt, Either, Opt, Tuple, Array, Listed, Variants}
 use Rattle.types.specs.declared.Head.the-variants as head
-use Rattle.types.specs.Heads.{FairBound}
+use Rattle.types.specs.Heads.{FairBound, bound-range}
 use Rattle.bits.specs.Bits as bits
 use Rattle.bits.specs.Laws.Writing.{wrote-then, wrote-same}
 use Rattle.structural.specs.Forms.{ending, Stands}
@@ -42,11 +43,11 @@ use Rattle.record.specs.Forms.{form-of}
 use Rattle.record.specs.Laws.Formed.{NothingRead, BitRead, IntegerRead, PayloadRead}
 use Rattle.record.specs.Laws.Sums.{sum-below, elements-below}
 use Rattle.restore.specs.declared.Numbered.{Numbered}
-use Rattle.restore.specs.Forms.{tree-at, made-at, standing, Given, Found, Ends, Ready, ReadyNumbered, Placed, PlacedNumbered, Whole, BitsPlaced, IntegerPlaced}
+use Rattle.restore.specs.Forms.{pairs-before, held, tree-at, made-at, standing, Given, Found, Ends, Ready, ReadyNumbered, Placed, PlacedNumbered, Whole, BitsPlaced, IntegerPlaced}
 use Rattle.restore.specs.Laws.Made.{MadeOf, made-as, made-same, made-of}
 use Rattle.restore.specs.Laws.Splits.{Bit, bit-at, OneBit, bit-row-one, BitSides, bit-row-sides, product-none, none-product, product-one, ProductSides, product-sides}
 use Rattle.restore.specs.Laws.Turns.{Only, sum-one, Leftwards, Rightwards, sum-left, sum-right, sum-inside}
-use Rattle.restore.specs.Laws.Lists.{Empty, Full, block-inside, block-left, block-right, list-two, Halves, list-more}
+use Rattle.restore.specs.Laws.Lists.{Held, block-held, list-two, Halves, list-more}
 use Rattle.record.specs.Laws.Writing.{first-room, first-fits, second-room, both-done, both-small, record-room, below-room, below-length, record-small, record-done, record-alone, returned, integer-put}
 
 -- what is found there is one thing
@@ -277,63 +278,95 @@ module _ (d : ℕ) (s E sh : List ℕ) (n p q : ℕ) (out : List ℕ) (g : Ready
 -- BLOCKS
 
 module _ (d : ℕ) (s sh : List ℕ) (n p q : ℕ) (out : List ℕ) (g : ReadyNumbered (made-at sh (blocked d s n p) q) out) where
+  in-held : Held sh d s n p q (g .number) (g .recs) (g .end)
+  in-held = block-held sh d s n p q (g .number) (g .recs) (g .end) (g .there)
+
   pub block-starts : q < length sh
-  block-starts = block-inside sh d s n p q (g .number) (g .recs) (g .end) (g .there)
+  block-starts = in-held .inside
 
   pub block-fits : length sh < 2 ^ 64 → Fits w64 (q + 1)
   block-fits m = let l = block-starts in omega arith
 
-  module _ (t : getD sh q 0 ≡ 1) where
-    no-elements : Empty sh d s q (g .number) (g .recs) (g .end)
-    no-elements = block-left sh d s n p q (g .number) (g .recs) (g .end) t (g .there)
+  module _ {m : ℕ} (e : m ≡ held (getD sh q 0) n) where
+    held-is : made-at sh (product Copies d s m p) (q + 1) ≡ some (g .recs, g .end)
+    held-is = ap (λ j. made-at sh (product Copies d s j p) (q + 1)) (e ∙ in-held .number) ∙ in-held .below
 
-    pub empty-fits : length sh < 2 ^ 64 → Fits w64 (q + 2)
-    empty-fits m = let l = no-elements .inside in omega arith
+    pub held-ready : Ready (made-at sh (product Copies d s m p) (q + 1)) out
+    held-ready = record { recs = g .recs; end = g .end; there = held-is; room = g .room }
 
-    pub empty-placed : PlacedNumbered (made-at sh (blocked d s n p) q) 0 out out (record { number = 0; next = q + 2; len = 0 })
-    unfolding written
-    empty-placed =
-        let b = no-elements in
-        let f = b .number in
-        record {
-          number = g .number;
-          recs = g .recs;
-          there = g .there ∙ ap (λ e. some ((g .number, g .recs), e)) (b .end);
-          counted = omega arith;
-          wrote = subst (λ rs. Wrote (written rs) out out 0) (sym (b .recs)) (wrote-none out);
-        }
+    pub held-placed : {o : List ℕ} {next len : ℕ} → Placed (made-at sh (product Copies d s m p) (q + 1)) out o next len → PlacedNumbered (made-at sh (blocked d s n p) q) 0 out o (record { number = m; next = next; len = len })
+    held-placed {o} {next} {len} v = record {
+      number = g .number;
+      recs = g .recs;
+      there = g .there ∙ ap (λ e. some ((g .number, g .recs), e)) (same-end held-is (v .there));
+      counted = let a = e ∙ in-held .number in omega arith;
+      wrote = subst (λ rs. Wrote (written rs) out o len) (same-what (v .there) held-is) (v .wrote);
+    }
 
-  module _ (t : getD sh q 0 ≡ 1 → ⊥) where
-    elements-all : Full sh d s n p q (g .number) (g .recs) (g .end)
-    elements-all = block-right sh d s n p q (g .number) (g .recs) (g .end) t (g .there)
-
-    pub full-ready : Ready (made-at sh (product Copies d s n p) (q + 1)) out
-    full-ready = record { recs = g .recs; end = g .end; there = elements-all .below; room = g .room }
-
-    pub full-placed : {o : List ℕ} {next len : ℕ} → Placed (made-at sh (product Copies d s n p) (q + 1)) out o next len → PlacedNumbered (made-at sh (blocked d s n p) q) 0 out o (record { number = n; next = next; len = len })
-    full-placed {o} {next} {len} v =
-        let b = elements-all in
-        let f = b .number in
-        record {
-          number = g .number;
-          recs = g .recs;
-          there = g .there ∙ ap (λ e. some ((g .number, g .recs), e)) (same-end (b .below) (v .there));
-          counted = omega arith;
-          wrote = subst (λ rs. Wrote (written rs) out o len) (same-what (v .there) (b .below)) (v .wrote);
-        }
+-- no block holds more than all its elements
+pub held-few : (side n : ℕ) {m : ℕ} → m ≡ held side n → m ≤ n
+unfolding held
+held-few side n {m} e = go (eqb side 1) e
+  where
+    go : (c : Bool) → m ≡ pick c 0 n → m ≤ n
+    go true h = omega arith
+    go false h = omega arith
 
 -- LISTS
+
+-- the half of a bound as a number: 1 with the bound 2
+half-two : (n : ℕ) → 2 ≤ n → bounds.Not ≡ half-bound n → n / 2 ≡ 1
+unfolding half-bound
+half-two n l e = go (ltb (n / 2) 2) refl e
+  where
+    go : (c : Bool) → ltb (n / 2) 2 ≡ c → bounds.Not ≡ pick c bounds.Not (bounds.Of (bound (n / 2))) → n / 2 ≡ 1
+    go true w h = let m = ltb-true (n / 2) 2 w in omega arith
+    go false w h = let z : _≡_ {A = ℕ} 0 1 = cc in absurd (omega arith)
+
+half-more : (n : ℕ) {h : NonZeroPow2Usize} → bounds.Of h ≡ half-bound n → n / 2 ≡ h .0
+unfolding half-bound
+half-more n {h} e = go (ltb (n / 2) 2) e
+  where
+    go : (c : Bool) → bounds.Of h ≡ pick c bounds.Not (bounds.Of (bound (n / 2))) → n / 2 ≡ h .0
+    go true h = let z : _≡_ {A = ℕ} 0 1 = cc in absurd (omega arith)
+    go false e = let i : bound (n / 2) ≡ h = cc in ap (λ (b : NonZeroPow2Usize). b .0) i
 
 module _ (d : ℕ) (s sh : List ℕ) (b : NonZeroPow2Usize) (p q : ℕ) (out : List ℕ) (f : FairBound b) (g : ReadyNumbered (made-at sh (elements d s b p) q) out) where
   module _ {x : Bound} (k : x ≡ half-bound (b .0)) (t : x ≡ bounds.Not) where
     as-block : made-at sh (elements d s b p) q ≡ made-at sh (blocked d s 1 p) q
     as-block = list-two sh d s p q f (sym t ∙ k)
 
-    pub two-ready : ReadyNumbered (made-at sh (blocked d s 1 p) q) out
+    two-ready : ReadyNumbered (made-at sh (blocked d s 1 p) q) out
     two-ready = record { number = g .number; recs = g .recs; end = g .end; there = sym as-block ∙ g .there; room = g .room }
 
-    pub two-placed : {o : List ℕ} {r : Numbered} → PlacedNumbered (made-at sh (blocked d s 1 p) q) 0 out o r → PlacedNumbered (made-at sh (elements d s b p) q) 0 out o r
+    two-placed : {o : List ℕ} {r : Numbered} → PlacedNumbered (made-at sh (blocked d s 1 p) q) 0 out o r → PlacedNumbered (made-at sh (elements d s b p) q) 0 out o r
     two-placed v = record { number = v .number; recs = v .recs; there = as-block ∙ v .there; counted = v .counted; wrote = v .wrote }
+
+    pub two-inside : q < length sh
+    two-inside = block-starts d s sh 1 p q out two-ready
+
+    pub two-fits : length sh < 2 ^ 64 → Fits w64 (q + 1)
+    two-fits a = block-fits d s sh 1 p q out two-ready a
+
+    -- of which m elements are held, none or one
+    module _ {m : ℕ} (e : m ≡ held (getD sh q 0) 1) where
+      held-two : Ready (made-at sh (product Copies d s m p) (q + 1)) out
+      held-two = held-ready d s sh 1 p q out two-ready e
+
+      held-one : (m ≡ 0 → ⊥) → m ≡ 1
+      held-one z = let l = held-few (getD sh q 0) 1 e in omega arith
+
+      pub absent-found : m ≡ 0 → Found (tree-at sh (q + 1))
+      absent-found z = none-found Copies d s sh m p (q + 1) out held-two z
+
+      pub absent-placed : {next : ℕ} → m ≡ 0 → Ends (tree-at sh (q + 1)) next → PlacedNumbered (made-at sh (elements d s b p) q) 0 out out (record { number = 0; next = next; len = 0 })
+      absent-placed {next} z a = two-placed (subst (λ i. PlacedNumbered (made-at sh (blocked d s 1 p) q) 0 out out (record { number = i; next = next; len = 0 })) z (held-placed d s sh 1 p q out two-ready e (none-placed Copies d s sh m p (q + 1) out held-two z a)))
+
+      pub present-ready : (m ≡ 0 → ⊥) → Ready (standing sh d s p (q + 1)) out
+      present-ready z = one-ready Copies d s sh m p (q + 1) out held-two (held-one z)
+
+      pub present-placed : {o : List ℕ} {next len : ℕ} → (m ≡ 0 → ⊥) → Placed (standing sh d s p (q + 1)) out o next len → PlacedNumbered (made-at sh (elements d s b p) q) 0 out o (record { number = 1; next = next; len = len })
+      present-placed {o} {next} {len} z v = two-placed (subst (λ i. PlacedNumbered (made-at sh (blocked d s 1 p) q) 0 out o (record { number = i; next = next; len = len })) (held-one z) (held-placed d s sh 1 p q out two-ready e (one-placed Copies d s sh m p (q + 1) out held-two (held-one z) v)))
 
   module _ {x : Bound} (k : x ≡ half-bound (b .0)) {h : NonZeroPow2Usize} (t : x ≡ bounds.Of h) where
     pub halves : Halves sh d s b h p q (g .number) (g .recs) (g .end)
@@ -342,27 +375,24 @@ module _ (d : ℕ) (s sh : List ℕ) (b : NonZeroPow2Usize) (p q : ℕ) (out : L
     halves-room : length (written (halves .firsts ++ halves .seconds)) ≤ length out
     halves-room = subst (λ rs. length (written rs) ≤ length out) (halves .all) (g .room)
 
-    pub list-fits : length sh < 2 ^ 64 → Fits w64 (q + 1)
-    list-fits m = let l = halves .inside in omega arith
-
     module _ {n : ℕ} (e : n ≡ h .0) where
       block-is : made-at sh (blocked d s n p) (q + 1) ≡ some ((halves .first, halves .firsts), halves .mid)
       block-is = ap (λ n. made-at sh (blocked d s n p) (q + 1)) e ∙ halves .block-there
 
-      pub block-ready : ReadyNumbered (made-at sh (blocked d s n p) (q + 1)) out
+      block-ready : ReadyNumbered (made-at sh (blocked d s n p) (q + 1)) out
       block-ready = record { number = halves .first; recs = halves .firsts; end = halves .mid; there = block-is; room = first-room (halves .firsts) (halves .seconds) out halves-room }
 
       module _ {o : List ℕ} {l : Numbered} (v : PlacedNumbered (made-at sh (blocked d s n p) (q + 1)) 0 out o l) where
         block-wrote : Wrote (written (halves .firsts)) out o (l .len)
         block-wrote = subst (λ (y : ℕ × List Rec). Wrote (written (y .1)) out o (l .len)) (same-what (v .there) block-is) (v .wrote)
 
-        pub block-ends : l .len ≤ length o
+        block-ends : l .len ≤ length o
         block-ends = first-fits (halves .firsts) (halves .seconds) out halves-room block-wrote
 
         list-is : made-at sh (elements d s h p) (l .next) ≡ some ((halves .second, halves .seconds), g .end)
         list-is = ap (made-at sh (elements d s h p)) (same-end (v .there) block-is) ∙ halves .list-there
 
-        pub list-ready : ReadyNumbered (made-at sh (elements d s h p) (l .next)) (rest (l .len) o)
+        list-ready : ReadyNumbered (made-at sh (elements d s h p) (l .next)) (rest (l .len) o)
         list-ready = record { number = halves .second; recs = halves .seconds; end = g .end; there = list-is; room = second-room (halves .firsts) (halves .seconds) out halves-room block-wrote }
 
         module _ {y : List ℕ} {r : Numbered} (u : PlacedNumbered (made-at sh (elements d s h p) (l .next)) 0 (rest (l .len) o) y r) where
@@ -378,7 +408,7 @@ module _ (d : ℕ) (s sh : List ℕ) (b : NonZeroPow2Usize) (p q : ℕ) (out : L
               let m = halves .number in
               omega arith
 
-          pub list-placed : PlacedNumbered (made-at sh (elements d s b p) q) 0 out (back (l .len) o y) (record { number = l .number + r .number; next = r .next; len = r .len + l .len })
+          list-placed : PlacedNumbered (made-at sh (elements d s b p) q) 0 out (back (l .len) o y) (record { number = l .number + r .number; next = r .next; len = r .len + l .len })
           list-placed =
               let m = all-counted in
               record {
@@ -389,11 +419,73 @@ module _ (d : ℕ) (s sh : List ℕ) (b : NonZeroPow2Usize) (p q : ℕ) (out : L
                 wrote = subst (λ rs. Wrote (written rs) out (back (l .len) o y) (r .len + l .len)) (sym (halves .all)) (both-done (halves .firsts) (halves .seconds) out halves-room block-wrote list-wrote);
               }
 
-          pub list-small : r .len + l .len ≤ length out
+          list-small : r .len + l .len ≤ length out
           list-small = both-small (halves .firsts) (halves .seconds) out halves-room block-wrote list-wrote
 
-          pub count-small : l .number + r .number < b .0
-          count-small = let m = all-counted in let o = made-of sh (elements d s b p) q ((g .number, g .recs), g .end) (g .there) in omega (arith, elements-below d s b p (o .tree) (g .number, g .recs) f (o .made))
+          list-few : l .number + r .number < b .0
+          list-few = let m = all-counted in let o = made-of sh (elements d s b p) q ((g .number, g .recs), g .end) (g .there) in omega (arith, elements-below d s b p (o .tree) (g .number, g .recs) f (o .made))
+
+  -- the block at the front, of half the bound and behind so many pairs
+  module _ {i m : ℕ} (e : i ≡ pairs-before (half-bound (b .0))) (l : m ≡ b .0 / 2) where
+    front-two : bounds.Not ≡ half-bound (b .0) → made-at sh (blocked d s m p) (q + i) ≡ made-at sh (blocked d s 1 p) q
+    front-two k = let a = e ∙ ap pairs-before (sym k) in ap₂ (λ n x. made-at sh (blocked d s n p) x) (l ∙ half-two (b .0) (bound-range b f .0) k) (omega arith)
+
+    front-more : {h : NonZeroPow2Usize} → bounds.Of h ≡ half-bound (b .0) → made-at sh (blocked d s m p) (q + i) ≡ made-at sh (blocked d s m p) (q + 1)
+    front-more k = let a = e ∙ ap pairs-before (sym k) in ap (made-at sh (blocked d s m p)) (omega arith)
+
+    pub front-ready : ReadyNumbered (made-at sh (blocked d s m p) (q + i)) out
+    front-ready = go (half-bound (b .0)) refl
+      where
+        go : (x : Bound) → x ≡ half-bound (b .0) → ReadyNumbered (made-at sh (blocked d s m p) (q + i)) out
+        go bounds.Not k = let y = two-ready k refl in record { number = y .number; recs = y .recs; end = y .end; there = front-two k ∙ y .there; room = y .room }
+        go (bounds.Of h) k = let y = block-ready k refl (l ∙ half-more (b .0) k) in record { number = y .number; recs = y .recs; end = y .end; there = front-more k ∙ y .there; room = y .room }
+
+    pub front-inside : q + i < length sh
+    front-inside = block-starts d s sh m p (q + i) out front-ready
+
+    pub front-fits : length sh < 2 ^ 64 → Fits w64 (q + i)
+    front-fits a = let c = front-inside in omega arith
+
+    pub elements-fit : length sh < 2 ^ 64 → Fits w64 (q + i + 1)
+    elements-fit a = block-fits d s sh m p (q + i) out front-ready a
+
+    -- of which n elements are held, and written
+    module _ {n : ℕ} (c : n ≡ held (getD sh (q + i) 0) m) where
+      pub front-few : n < b .0
+      front-few = let a = held-few (getD sh (q + i) 0) m c in let j = bound-range b f .0 in omega arith
+
+      pub elements-ready : Ready (made-at sh (product Copies d s n p) (q + i + 1)) out
+      elements-ready = held-ready d s sh m p (q + i) out front-ready c
+
+      module _ {o : List ℕ} {next len : ℕ} (v : Placed (made-at sh (product Copies d s n p) (q + i + 1)) out o next len) {x : Bound} (k : x ≡ half-bound (b .0)) where
+        front-placed : PlacedNumbered (made-at sh (blocked d s m p) (q + i)) 0 out o (record { number = n; next = next; len = len })
+        front-placed = held-placed d s sh m p (q + i) out front-ready c v
+
+        pub alone-placed : x ≡ bounds.Not → PlacedNumbered (made-at sh (elements d s b p) q) 0 out o (record { number = n; next = next; len = len })
+        alone-placed t = let y = front-placed in two-placed k t (record { number = y .number; recs = y .recs; there = sym (front-two (sym t ∙ k)) ∙ y .there; counted = y .counted; wrote = y .wrote })
+
+        module _ {h : NonZeroPow2Usize} (t : x ≡ bounds.Of h) where
+          half-is : m ≡ h .0
+          half-is = l ∙ half-more (b .0) (sym t ∙ k)
+
+          block-placed : PlacedNumbered (made-at sh (blocked d s m p) (q + 1)) 0 out o (record { number = n; next = next; len = len })
+          block-placed = let y = front-placed in record { number = y .number; recs = y .recs; there = sym (front-more (sym t ∙ k)) ∙ y .there; counted = y .counted; wrote = y .wrote }
+
+          pub elements-end : len ≤ length o
+          elements-end = block-ends k t half-is block-placed
+
+          pub rest-ready : ReadyNumbered (made-at sh (elements d s h p) next) (rest len o)
+          rest-ready = list-ready k t half-is block-placed
+
+          module _ {y : List ℕ} {r : Numbered} (u : PlacedNumbered (made-at sh (elements d s h p) next) 0 (rest len o) y r) where
+            pub rest-placed : PlacedNumbered (made-at sh (elements d s b p) q) 0 out (back len o y) (record { number = n + r .number; next = r .next; len = r .len + len })
+            rest-placed = list-placed k t half-is block-placed u
+
+            pub rest-small : r .len + len ≤ length out
+            rest-small = list-small k t half-is block-placed u
+
+            pub count-small : n + r .number < b .0
+            count-small = list-few k t half-is block-placed u
 
 -- A RECORD AND WHAT STANDS BELOW IT
 

@@ -6,7 +6,10 @@ use mathlib.Core.List.{List}
 use mathlib.Core.Option.{Option, some}
 use Prim.Native.Nat.{ℕ, _+_, _≤_}
 use lib.ListN.{length, drop}
-use Rattle.model.specs.Options.{mapO, bindO}
+use lib.Dec.{eqb}
+use Rattle.num.specs.declared.Bound.{Bound}
+use Rattle.num.specs.declared.Bound.the-variants as bounds
+use Rattle.model.specs.Options.{pick, mapO, bindO}
 use Rattle.model.specs.Bytes.{of-bits, in-bytes}
 use Rattle.model.specs.Structural.{SValue, shape-records}
 use Rattle.model.specs.ShapeFiles.{read-shape}
@@ -34,6 +37,17 @@ made-at sh f q = bindO (tree-at sh q) (λ x. mapO (λ a. (a, x .1)) (f (x .0)))
 -- its records, as one of what stands at record p of a type file with d levels from there on
 unfoldable pub standing : List ℕ → ℕ → List ℕ → ℕ → ℕ → Given (List Rec)
 standing sh d s p q = made-at sh (part d s p) q
+
+-- LISTS
+
+-- the pairs before a list's first block, by the half of its bound: with the bound 2 there is none
+abbrev pub pairs-before : Bound → ℕ
+pairs-before bounds.Not = 0
+pairs-before (bounds.Of h) = 1
+
+-- how many elements a block of n holds, by its side: none with a left, else all
+unfoldable pub held : ℕ → ℕ → ℕ
+held side n = pick (eqb side 1) 0 n
 
 -- WHAT THE CONTRACTS SAY
 

@@ -15,15 +15,16 @@ use told::hop;
 use types::head_at;
 ghost use mathlib.Core.Path.{_≡_};
 ghost use mathlib.Core.Bool.{false};
-ghost use Prim.Native.Nat.{_≤_, _+_};
-ghost use lib.ListN.{length};
+ghost use Prim.Native.Nat.{_<_, _≤_, _+_};
+ghost use lib.ListN.{length, getD};
+ghost use Rattle.num.specs.Powers.{half-bound};
 ghost use Rattle.types.specs.Heads.{FairBound};
 ghost use Rattle.types.specs.Steps.{Given};
 ghost use Rattle.structural.specs.Forms.{Stands};
 ghost use Rattle.told.specs.declared.Parts.the-variants.{Types};
 ghost use Rattle.told.specs.Forms.{GivenParts, skip};
-ghost use Rattle.record.specs.Trees.{bit-row, product, sum, blocked, elements};
-ghost use Rattle.restore.specs.Forms.{tree-at, made-at, standing, Found, Ends, Ready, ReadyNumbered, Placed, PlacedNumbered, Whole, BitsPlaced, IntegerPlaced};
+ghost use Rattle.record.specs.Trees.{bit-row, product, sum, elements};
+ghost use Rattle.restore.specs.Forms.{pairs-before, held, tree-at, made-at, standing, Found, Ends, Ready, ReadyNumbered, Placed, PlacedNumbered, Whole, BitsPlaced, IntegerPlaced};
 
 // The records of a shape that are looked at.
 const LEFT: u8 = 1;
@@ -44,14 +45,7 @@ struct Written {
     len: usize,
 }
 
-// The same of parts, and the type's record after them.
-struct Row {
-    at: usize,
-    next: usize,
-    len: usize,
-}
-
-// The same of what has a number: the choice taken, or how many elements.
+// The same of what has a number: of parts the type's record after them, of a sum the choice taken, of a list how many elements.
 struct Numbered {
     number: usize,
     next: usize,
@@ -165,7 +159,7 @@ fn write_record(
             }
         }
         Form::List(bound) => {
-            let below = write_list(
+            let below = write_elements(
                 ty,
                 ends,
                 at + 1,
@@ -202,15 +196,15 @@ fn write_product(
     shape: &[u8],
     q: usize,
     out: &mut [u8],
-) -> Row
+) -> Numbered
     requires { ⌜ n ≤ 65536 ⌝ }
     requires { ⌜ GivenParts parts level (now ty) (now ends) n at ⌝ }
     requires { ⌜ Ready (made-at (now shape) (product parts level (now ty) n at) q) (now out) ⌝ }
-    ensures { λ r. ⌜ (r .at ≡ skip parts level (now (ty .entry)) n at) × Placed (made-at (now (shape .entry)) (product parts level (now (ty .entry)) n at) q) (now (out .entry)) (now (out .exit)) (r .next) (r .len) ⌝ }
+    ensures { λ r. ⌜ (r .number ≡ skip parts level (now (ty .entry)) n at) × Placed (made-at (now (shape .entry)) (product parts level (now (ty .entry)) n at) q) (now (out .entry)) (now (out .exit)) (r .next) (r .len) ⌝ }
 {
     if n == 0 {
-        return Row {
-            at: at,
+        return Numbered {
+            number: at,
             next: pass(shape, q),
             len: 0,
         };
@@ -218,13 +212,13 @@ fn write_product(
     if n == 1 {
         let one = write_record(ty, ends, at, level, shape, q, out);
         return match parts {
-            Parts::Copies => Row {
-                at: at,
+            Parts::Copies => Numbered {
+                number: at,
                 next: one.next,
                 len: one.len,
             },
-            Parts::Types => Row {
-                at: ends[at],
+            Parts::Types => Numbered {
+                number: ends[at],
                 next: one.next,
                 len: one.len,
             },
@@ -232,23 +226,24 @@ fn write_product(
     }
     let few = btree_split_index(n);
     let others = n - few;
-    let left = write_product(ty, ends, at, level, few, parts, shape, q + 1, out);
-    let k = left.len;
-    let right = write_product(
+    // both sides answer into one local, which keeps the stack's frame small
+    let mut side = write_product(ty, ends, at, level, few, parts, shape, q + 1, out);
+    let k = side.len;
+    side = write_product(
         ty,
         ends,
-        left.at,
+        side.number,
         level,
         others,
         parts,
         shape,
-        left.next,
+        side.next,
         &mut out[k..],
     );
-    Row {
-        at: right.at,
-        next: right.next,
-        len: right.len + k,
+    Numbered {
+        number: side.number,
+        next: side.next,
+        len: side.len + k,
     }
 }
 
@@ -295,38 +290,28 @@ fn write_sum(
     )
 }
 
-// Writes the elements of a block of n of the type at record `at`, none or all of them, and answers how many.
-fn write_block(
-    ty: &[u8],
-    ends: &[usize],
-    at: usize,
-    level: usize,
-    n: usize,
-    shape: &[u8],
-    q: usize,
-    out: &mut [u8],
-) -> Numbered
-    requires { ⌜ n ≤ 65536 ⌝ }
-    requires { ⌜ Stands level (now ty) (now ends) at ⌝ }
-    requires { ⌜ ReadyNumbered (made-at (now shape) (blocked level (now ty) n at) q) (now out) ⌝ }
-    ensures { λ r. ⌜ PlacedNumbered (made-at (now (shape .entry)) (blocked level (now (ty .entry)) n at) q) 0 (now (out .entry)) (now (out .exit)) r ⌝ }
+// The pairs before a list's first block: none with the bound 2, else one.
+fn pairs_before(bound: NonZeroPow2Usize) -> usize
+    ensures { λ r. ⌜ r ≡ pairs-before (half-bound (bound .0)) ⌝ }
 {
-    if shape[q] == LEFT {
-        return Numbered {
-            number: 0,
-            next: q + 2,
-            len: 0,
-        };
-    }
-    let all = write_product(ty, ends, at, level, n, Parts::Copies, shape, q + 1, out);
-    Numbered {
-        number: n,
-        next: all.next,
-        len: all.len,
+    match bound.checked_div2() {
+        Bound::Not => 0,
+        Bound::Of(_) => 1,
     }
 }
 
-// Writes the elements of a list with the bound, and answers how many: with the bound 2 a block of 1, else a block of half the bound and a list with that bound.
+// How many elements the block of n at place q holds: none with a left, else all.
+fn held(shape: &[u8], q: usize, n: usize) -> usize
+    requires { ⌜ q < length (now shape) ⌝ }
+    ensures { λ r. ⌜ r ≡ held (getD (now (shape .entry)) q 0) n ⌝ }
+{
+    if shape[q] == LEFT {
+        return 0;
+    }
+    n
+}
+
+// Writes the elements of a list with the bound, and answers how many: those of a block of half the bound and, but with the bound 2, of a list with that bound.
 fn write_list(
     ty: &[u8],
     ends: &[usize],
@@ -342,18 +327,61 @@ fn write_list(
     requires { ⌜ ReadyNumbered (made-at (now shape) (elements level (now ty) bound at) q) (now out) ⌝ }
     ensures { λ r. ⌜ PlacedNumbered (made-at (now (shape .entry)) (elements level (now (ty .entry)) bound at) q) 0 (now (out .entry)) (now (out .exit)) r ⌝ }
 {
+    let front = q + pairs_before(bound);
+    let n = held(shape, front, bound.get() / 2);
+    // one local for both, as in `write_product`; a block of none passes over its unit
+    let mut side = write_product(ty, ends, at, level, n, Parts::Copies, shape, front + 1, out);
+    let k = side.len;
     match bound.checked_div2() {
-        Bound::Not => write_block(ty, ends, at, level, 1, shape, q, out),
+        Bound::Not => Numbered {
+            number: n,
+            next: side.next,
+            len: k,
+        },
         Bound::Of(half) => {
-            let block = write_block(ty, ends, at, level, half.get(), shape, q + 1, out);
-            let k = block.len;
-            let others = write_list(ty, ends, at, level, half, shape, block.next, &mut out[k..]);
+            side = write_list(ty, ends, at, level, half, shape, side.next, &mut out[k..]);
             Numbered {
-                number: block.number + others.number,
-                next: others.next,
-                len: others.len + k,
+                number: n + side.number,
+                next: side.next,
+                len: side.len + k,
             }
         }
+    }
+}
+
+// The same as `write_list`; with the bound 2, which is an Option, without a call for its block.
+fn write_elements(
+    ty: &[u8],
+    ends: &[usize],
+    at: usize,
+    level: usize,
+    bound: NonZeroPow2Usize,
+    shape: &[u8],
+    q: usize,
+    out: &mut [u8],
+) -> Numbered
+    requires { ⌜ FairBound bound ⌝ }
+    requires { ⌜ Stands level (now ty) (now ends) at ⌝ }
+    requires { ⌜ ReadyNumbered (made-at (now shape) (elements level (now ty) bound at) q) (now out) ⌝ }
+    ensures { λ r. ⌜ PlacedNumbered (made-at (now (shape .entry)) (elements level (now (ty .entry)) bound at) q) 0 (now (out .entry)) (now (out .exit)) r ⌝ }
+{
+    match bound.checked_div2() {
+        Bound::Not => {
+            if held(shape, q, 1) == 0 {
+                return Numbered {
+                    number: 0,
+                    next: pass(shape, q + 1),
+                    len: 0,
+                };
+            }
+            let one = write_record(ty, ends, at, level, shape, q + 1, out);
+            Numbered {
+                number: 1,
+                next: one.next,
+                len: one.len,
+            }
+        }
+        Bound::Of(_) => write_list(ty, ends, at, level, bound, shape, q, out),
     }
 }
 

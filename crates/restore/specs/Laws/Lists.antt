@@ -1,4 +1,4 @@
--- Laws of lists at a place of a shape file: a block is a left with no elements or a right with all of them; a list is a block of 1, or a pair of a block of half the bound and a list with that bound.
+-- Laws of lists at a place of a shape file: a block is a side and the elements that it holds, none or all; a list is a block of 1, or a pair of a block of half the bound and a list with that bound.
 use mathlib.Core.Path.{_≡_, refl, sym, ap, _∙_}
 use mathlib.Core.List.{List, [], _++_}
 use mathlib.Core.Option.{Option, some, Option·none-ne-some, Option·some-injective}
@@ -21,10 +21,10 @@ use Rattle.structural.specs.Laws.Bounds.{Power, power-of}
 use Rattle.told.specs.declared.Parts.the-variants.{Copies}
 use Rattle.told.specs.Laws.Rows.{skip-copies}
 use Rattle.record.specs.Trees.{row, product, numbered, blocked, elements}
-use Rattle.restore.specs.Forms.{tree-at, made-at}
+use Rattle.restore.specs.Forms.{held, tree-at, made-at}
 use Rattle.restore.specs.Laws.Made.{made-same, made-of, numbered-some}
-use Rattle.restore.specs.Laws.Places.{Two, left-at, right-at, unit-at, pair-at, made-there}
-use Rattle.restore.specs.Laws.Splits.{row-append}
+use Rattle.restore.specs.Laws.Places.{Two, left-at, right-at, pair-at, made-there}
+use Rattle.restore.specs.Laws.Splits.{none-product, row-append}
 
 -- the half of a bound that is more than 2
 record Half (b h : NonZeroPow2Usize) : Type 0 where
@@ -62,27 +62,14 @@ module _ (sh : List ℕ) (d : ℕ) (s : List ℕ) where
 
   -- BLOCKS
 
-  -- a left with no elements
-  pub record Empty (q i : ℕ) (rs : List Rec) (e : ℕ) : Type 0 where
-    pub starts : getD sh q 0 ≡ 1
-    pub inside : q + 1 < length sh
-    pub end : e ≡ q + 2
-    pub number : i ≡ 0
-    pub recs : rs ≡ []
-
-  -- a right with all of them
-  pub record Full (n p q i : ℕ) (rs : List Rec) (e : ℕ) : Type 0 where
-    pub starts : getD sh q 0 ≡ 2
+  -- its side, and behind it the elements that it holds, none or all
+  pub record Held (n p q i : ℕ) (rs : List Rec) (e : ℕ) : Type 0 where
     pub inside : q < length sh
-    pub number : i ≡ n
-    pub below : made-at sh (product Copies d s n p) (q + 1) ≡ some (rs, e)
+    pub number : held (getD sh q 0) n ≡ i
+    pub below : made-at sh (product Copies d s i p) (q + 1) ≡ some (rs, e)
 
-  data Block (n p q i : ℕ) (rs : List Rec) (e : ℕ) : Type 0 where
-    empty : Empty q i rs e → Block n p q i rs e
-    full : Full n p q i rs e → Block n p q i rs e
-
-  in-block : (n p q i : ℕ) (rs : List Rec) (e : ℕ) (x : SValue) → tree-at sh q ≡ some (x, e) → bindO (as-block n x) (numbered-row p) ≡ some (i, rs) → Block n p q i rs e
-  unfolding row product
+  in-block : (n p q i : ℕ) (rs : List Rec) (e : ℕ) (x : SValue) → tree-at sh q ≡ some (x, e) → bindO (as-block n x) (numbered-row p) ≡ some (i, rs) → Held n p q i rs e
+  unfolding row product held
   in-block n p q i rs e unit t g = absurd (Option·none-ne-some (i, rs) g)
   in-block n p q i rs e (pair x y) t g = absurd (Option·none-ne-some (i, rs) g)
   in-block n p q i rs e (left (left x)) t g = absurd (Option·none-ne-some (i, rs) g)
@@ -90,46 +77,28 @@ module _ (sh : List ℕ) (d : ℕ) (s : List ℕ) where
   in-block n p q i rs e (left (pair x y)) t g = absurd (Option·none-ne-some (i, rs) g)
   in-block n p q i rs e (left unit) t g =
       let o = left-at unit t in
-      let u = unit-at (o .below) in
-      let l = u .end in
       let k = Option·some-injective (0, []) (i, rs) g in
-      empty (record { starts = o .starts; inside = u .inside; end = omega arith; number = sym (ap (λ (y : ℕ × List Rec). y .0) k); recs = sym (ap (λ (y : ℕ × List Rec). y .1) k) })
+      let z : 0 ≡ i = ap (λ (y : ℕ × List Rec). y .0) k in
+      record {
+        inside = o .inside;
+        number = ap (λ a. held a n) (o .starts) ∙ z;
+        below = none-product Copies d s sh i p (q + 1) unit e (sym z) (o .below) ∙ ap (λ us. some (us, e)) (ap (λ (y : ℕ × List Rec). y .1) k);
+      }
   in-block n p q i rs e (right x) t g =
       let o = right-at x t in
       let (xs, f, k) = bindO-some (as-tuple n x) _ (i, rs) g in
       let (m, r) = numbered-some (length xs) (row Copies d s (length xs) p xs) i rs k in
       let z : length xs ≡ n = length-as-tuple n x xs f in
-      full (record {
-        starts = o .starts;
+      let a : n ≡ i = sym (m ∙ z) in
+      record {
         inside = o .inside;
-        number = m ∙ z;
-        below = made-there (record { tree = x; stood = o .below; made = ap (λ o. bindO o (λ xs. row Copies d s n p xs)) f ∙ ap (λ j. row Copies d s j p xs) (sym z) ∙ r });
-      })
+        number = ap (λ a. held a n) (o .starts) ∙ a;
+        below = ap (λ j. made-at sh (product Copies d s j p) (q + 1)) (sym a) ∙ made-there (record { tree = x; stood = o .below; made = ap (λ o. bindO o (λ xs. row Copies d s n p xs)) f ∙ ap (λ j. row Copies d s j p xs) (sym z) ∙ r });
+      }
 
-  block : (n p q i : ℕ) (rs : List Rec) (e : ℕ) → made-at sh (blocked d s n p) q ≡ some ((i, rs), e) → Block n p q i rs e
+  pub block-held : (n p q i : ℕ) (rs : List Rec) (e : ℕ) → made-at sh (blocked d s n p) q ≡ some ((i, rs), e) → Held n p q i rs e
   unfolding blocked
-  block n p q i rs e h = let m = made-of sh (blocked d s n p) q ((i, rs), e) h in in-block n p q i rs e (m .tree) (m .stood) (m .made)
-
-  pub block-inside : (n p q i : ℕ) (rs : List Rec) (e : ℕ) → made-at sh (blocked d s n p) q ≡ some ((i, rs), e) → q < length sh
-  block-inside n p q i rs e h = go (block n p q i rs e h)
-    where
-      go : Block n p q i rs e → q < length sh
-      go (empty b) = let l = b .inside in omega arith
-      go (full b) = b .inside
-
-  pub block-left : (n p q i : ℕ) (rs : List Rec) (e : ℕ) → getD sh q 0 ≡ 1 → made-at sh (blocked d s n p) q ≡ some ((i, rs), e) → Empty q i rs e
-  block-left n p q i rs e t h = go (block n p q i rs e h)
-    where
-      go : Block n p q i rs e → Empty q i rs e
-      go (empty b) = b
-      go (full b) = let u = b .starts in absurd (omega arith)
-
-  pub block-right : (n p q i : ℕ) (rs : List Rec) (e : ℕ) → (getD sh q 0 ≡ 1 → ⊥) → made-at sh (blocked d s n p) q ≡ some ((i, rs), e) → Full n p q i rs e
-  block-right n p q i rs e t h = go (block n p q i rs e h)
-    where
-      go : Block n p q i rs e → Full n p q i rs e
-      go (empty b) = absurd (t (b .starts))
-      go (full b) = b
+  block-held n p q i rs e h = let m = made-of sh (blocked d s n p) q ((i, rs), e) h in in-block n p q i rs e (m .tree) (m .stood) (m .made)
 
   -- LISTS
 

@@ -1,11 +1,12 @@
--- The writers of a record, a product, a sum, a block and a list, which call each other. Each writes what stands at its place:
+-- The writers of a record, a product, a sum and a list, which call each other. Each writes what stands at its place:
 --     a record     what its form says (`formed`): behind its own record the product, the sum or the list of what stands below it
 --     a product    of two parts or more the left side, and the right side into the rest behind it (`product-sides`)
 --     a sum        the side that a left or a right leads to (`sum-left`, `sum-right`)
---     a list       likewise a block of half the bound, and the list with that bound (`list-more`)
+--     a list       likewise the elements that its first block holds (`block-held`), and the list with half the bound (`list-more`)
 -- A call goes a level down, or stays on its level with fewer parts or half the bound: a level weighs more than all counts and bounds.
 -- Assumes nothing.
-use Prim.Native.Nat.{ℕ, _+_, _-_, _*_, _^_, _<_}
+use mathlib.Core.Path.{refl, ap}
+use Prim.Native.Nat.{ℕ, _+_, _-_, _*_, _/_, _^_, _<_}
 use native.Mathlib.Omega.{arith}
 use borrow.Author.Needs.{needs}
 use borrow.Fn.Kinds.{In}
@@ -19,40 +20,41 @@ use Rattle.record.specs.Marks.{mark-of}
 use Rattle.record.specs.Trees.{product, sum, elements}
 use Rattle.record.specs.Laws.Formed.{BitRead, IntegerRead, ProductRead, SumRead, ListRead, PayloadRead, as-nothing, as-boolean, as-integer, as-product, as-sum, as-list, as-payload}
 use Rattle.restore.specs.Forms.{made-at, standing}
-use Rattle.restore.specs.Laws.Lists.{Halves}
 use Rattle.record.specs.Laws.Writing.{lent-length}
-use Rattle.restore.proofs.Steps.{skip-copy, skip-type, given-hops, hopped-given, none-found, none-placed, one-ready, one-placed, parts-fit, left-ready, left-fits, right-ready, sides-placed, sides-small, ready-as, placed-as, placed-length, numbered-length, only-ready, only-placed, choice-inside, choice-fits, first-ready, first-placed, others-ready, others-placed, block-starts, block-fits, empty-fits, empty-placed, full-ready, full-placed, two-ready, two-placed, halves, list-fits, block-ready, block-ends, list-ready, list-placed, list-small, count-small, Under, under, under-start, under-ready, under-back, under-small, under-placed, UnderNumbered, under-numbered, numbered-start, numbered-ready, numbered-back, numbered-small, numbered-placed, nothing-there, payload-is, choice-below, count-below, side-some, side-few, side-inside, bit-room, side-fits, bit-marks, bit-done, integer-found, integer-room, integer-marks, integer-done}
-use Rattle.restore.proofs.write_block.Reads as write-block
-use Rattle.restore.proofs.write_block.Kinds as write-block-kinds
-use Rattle.restore.proofs.+write_block+write_list+write_product+write_record+write_sum.Lts-write_block as write-block-lts
+use Rattle.restore.proofs.Steps.{skip-copy, skip-type, given-hops, hopped-given, none-found, none-placed, one-ready, one-placed, parts-fit, left-ready, left-fits, right-ready, sides-placed, sides-small, ready-as, placed-as, placed-length, numbered-length, only-ready, only-placed, choice-inside, choice-fits, first-ready, first-placed, others-ready, others-placed, halves, front-inside, front-fits, front-few, two-inside, two-fits, absent-found, absent-placed, present-ready, present-placed, elements-fit, elements-ready, alone-placed, elements-end, rest-ready, rest-placed, rest-small, count-small, Under, under, under-start, under-ready, under-back, under-small, under-placed, UnderNumbered, under-numbered, numbered-start, numbered-ready, numbered-back, numbered-small, numbered-placed, nothing-there, payload-is, choice-below, count-below, side-some, side-few, side-inside, bit-room, side-fits, bit-marks, bit-done, integer-found, integer-room, integer-marks, integer-done}
+use Rattle.restore.proofs.write_elements.Reads as write-elements
+use Rattle.restore.proofs.write_elements.Kinds as write-elements-kinds
+use Rattle.restore.proofs.+write_elements+write_list+write_product+write_record+write_sum.Lts-write_elements as write-elements-lts
 use Rattle.restore.proofs.write_list.Reads as write-list
 use Rattle.restore.proofs.write_list.Kinds as write-list-kinds
-use Rattle.restore.proofs.+write_block+write_list+write_product+write_record+write_sum.Lts-write_list as write-list-lts
+use Rattle.restore.proofs.+write_elements+write_list+write_product+write_record+write_sum.Lts-write_list as write-list-lts
 use Rattle.restore.proofs.write_product.Reads as write-product
 use Rattle.restore.proofs.write_product.Kinds as write-product-kinds
-use Rattle.restore.proofs.+write_block+write_list+write_product+write_record+write_sum.Lts-write_product as write-product-lts
+use Rattle.restore.proofs.+write_elements+write_list+write_product+write_record+write_sum.Lts-write_product as write-product-lts
 use Rattle.restore.proofs.write_record.Reads as write-record
 use Rattle.restore.proofs.write_record.Kinds as write-record-kinds
-use Rattle.restore.proofs.+write_block+write_list+write_product+write_record+write_sum.Lts-write_record as write-record-lts
+use Rattle.restore.proofs.+write_elements+write_list+write_product+write_record+write_sum.Lts-write_record as write-record-lts
 use Rattle.restore.proofs.write_sum.Reads as write-sum
 use Rattle.restore.proofs.write_sum.Kinds as write-sum-kinds
-use Rattle.restore.proofs.+write_block+write_list+write_product+write_record+write_sum.Lts-write_sum as write-sum-lts
+use Rattle.restore.proofs.+write_elements+write_list+write_product+write_record+write_sum.Lts-write_sum as write-sum-lts
 use Rattle.array.proofs.btree_split_index.Reads as btree-split-index-reads
 use Rattle.num.proofs.NonZeroPow2Usize.checked_div2.Reads as checked-div2-reads
 use Rattle.num.proofs.NonZeroPow2Usize.get.Reads as get-reads
 use Rattle.record.proofs.write_mark.Reads as write-mark-reads
 use Rattle.record.proofs.form_of.Reads as form-of-reads
+use Rattle.restore.proofs.held.Reads as held-reads
+use Rattle.restore.proofs.pairs_before.Reads as pairs-before-reads
 use Rattle.restore.proofs.pass.Reads as pass-reads
 use Rattle.restore.proofs.write_integer.Reads as write-integer-reads
 use Rattle.told.proofs.hop.Reads as hop-reads
 use Rattle.types.proofs.head_at.Reads as head-at-reads
-use Rattle.restore.proofs.+write_block+write_list+write_product+write_record+write_sum.{statement}
-use Rattle.restore.proofs.+write_block+write_list+write_product+write_record+write_sum.Tie.{close}
+use Rattle.restore.proofs.+write_elements+write_list+write_product+write_record+write_sum.{statement}
+use Rattle.restore.proofs.+write_elements+write_list+write_product+write_record+write_sum.Tie.{close}
 
-ruleset steps = (level-some, next-fits, stands-inside, given-copies, skip-none, skip-copy, skip-type, one-given, none-found, none-placed, one-ready, one-placed, block-starts, block-fits, empty-fits, empty-placed, full-ready, full-placed, placed-length, needs)
+ruleset steps = (level-some, next-fits, stands-inside, given-copies, skip-none, skip-copy, skip-type, one-given, none-found, none-placed, one-ready, one-placed, placed-length, needs)
 
-abbrev μ-write-block : Measures 4 write-block-kinds.ps ℕ
-μ-write-block κs a = a .1 .1 .1 .0 * 2 ^ 17 + a .1 .1 .1 .1 .0 + 2
+abbrev μ-write-elements : Measures 4 write-elements-kinds.ps ℕ
+μ-write-elements κs a = a .1 .1 .1 .0 * 2 ^ 17 + a .1 .1 .1 .1 .0 .0 + 5
 
 abbrev μ-write-list : Measures 4 write-list-kinds.ps ℕ
 μ-write-list κs a = a .1 .1 .1 .0 * 2 ^ 17 + a .1 .1 .1 .1 .0 .0 + 4
@@ -67,11 +69,11 @@ abbrev μ-write-sum : Measures 4 write-sum-kinds.ps ℕ
 μ-write-sum κs a = a .1 .1 .1 .0 * 2 ^ 17 + a .1 .1 .1 .1 .0 + 1
 
 module _ (t : ℕ) where
-  abbrev write-block-at : In 4 write-block-kinds.ps
-  write-block-at = and 4 write-block-kinds.ps (is 4 write-block-kinds.ps μ-write-block t) write-block.Pre
+  abbrev write-elements-at : In 4 write-elements-kinds.ps
+  write-elements-at = and 4 write-elements-kinds.ps (is 4 write-elements-kinds.ps μ-write-elements t) write-elements.Pre
 
-  abbrev write-block-below : In 4 write-block-kinds.ps
-  write-block-below = and 4 write-block-kinds.ps (falls 4 write-block-kinds.ps _<_ μ-write-block t) write-block.Pre
+  abbrev write-elements-below : In 4 write-elements-kinds.ps
+  write-elements-below = and 4 write-elements-kinds.ps (falls 4 write-elements-kinds.ps _<_ μ-write-elements t) write-elements.Pre
 
   abbrev write-list-at : In 4 write-list-kinds.ps
   write-list-at = and 4 write-list-kinds.ps (is 4 write-list-kinds.ps μ-write-list t) write-list.Pre
@@ -97,80 +99,102 @@ module _ (t : ℕ) where
   abbrev write-sum-below : In 4 write-sum-kinds.ps
   write-sum-below = and 4 write-sum-kinds.ps (falls 4 write-sum-kinds.ps _<_ μ-write-sum t) write-sum.Pre
 
-  abbrev write-block-calls : write-block-lts.Claims
-  write-block-calls = (write-product-below, write-product.Post)
+  abbrev write-elements-calls : write-elements-lts.Claims
+  write-elements-calls = (checked-div2-reads.Asked, checked-div2-reads.Learnt, held-reads.Asked, held-reads.Learnt, pass-reads.Asked, pass-reads.Learnt, write-record-below, write-record.Post, write-list-below, write-list.Post)
 
   abbrev write-list-calls : write-list-lts.Claims
-  write-list-calls = (checked-div2-reads.Asked, checked-div2-reads.Learnt, write-block-below, write-block.Post, get-reads.Asked, get-reads.Learnt, write-list-below, write-list.Post)
+  write-list-calls = (pairs-before-reads.Asked, pairs-before-reads.Learnt, get-reads.Asked, get-reads.Learnt, held-reads.Asked, held-reads.Learnt, write-product-below, write-product.Post, checked-div2-reads.Asked, checked-div2-reads.Learnt, write-list-below, write-list.Post)
 
   abbrev write-product-calls : write-product-lts.Claims
   write-product-calls = (pass-reads.Asked, pass-reads.Learnt, write-record-below, write-record.Post, btree-split-index-reads.Asked, btree-split-index-reads.Learnt, write-product-below, write-product.Post)
 
   abbrev write-record-calls : write-record-lts.Claims
-  write-record-calls = (head-at-reads.Asked, head-at-reads.Learnt, form-of-reads.Asked, form-of-reads.Learnt, write-mark-reads.Asked, write-mark-reads.Learnt, write-integer-reads.Asked, write-integer-reads.Learnt, write-product-below, write-product.Post, write-sum-below, write-sum.Post, write-list-below, write-list.Post)
+  write-record-calls = (head-at-reads.Asked, head-at-reads.Learnt, form-of-reads.Asked, form-of-reads.Learnt, write-mark-reads.Asked, write-mark-reads.Learnt, write-integer-reads.Asked, write-integer-reads.Learnt, write-product-below, write-product.Post, write-sum-below, write-sum.Post, write-elements-below, write-elements.Post)
 
   abbrev write-sum-calls : write-sum-lts.Claims
   write-sum-calls = (write-record-below, write-record.Post, btree-split-index-reads.Asked, btree-split-index-reads.Learnt, write-sum-below, write-sum.Post, hop-reads.Asked, hop-reads.Learnt)
 
-  write-block-write-product-requires : write-block-lts.Need-write-product-requires write-block-calls write-block-at write-block.Post
-  write-block-write-product-requires c κs = let p = c .before .before .before .before .before .before .before .pre in (omega arith, (p .1 .0, (given-copies _ (p .1 .1 .0), full-ready _ _ _ _ _ _ _ (p .1 .1 .1) (c .before .if1 .left))))
+  write-elements-held-requires : write-elements-lts.Need-held-requires write-elements-calls write-elements-at write-elements.Post
+  write-elements-held-requires c κs = two-inside _ _ _ _ _ _ _ (c .before .before .before .before .before .before .before .pre .1 .0) (c .before .before .before .before .before .before .before .pre .1 .1 .1) (c .before .before .checked-div2 .ensures) (c .enum-told .given .1)
 
-  write-block-same-length : write-block-lts.Need-same-length write-block-calls write-block-at write-block.Post
-  write-block-same-length c = let p = c .before .before .before .before .before .before .before .before .before .before .pre in placed-length (full-ready _ _ _ _ _ _ _ (p .1 .1 .1) (c .before .before .before .before .if1 .left)) (c .before .before .write-product .ensures .1)
+  write-elements-add-pass : write-elements-lts.Need-add-pass write-elements-calls write-elements-at write-elements.Post
+  write-elements-add-pass c = two-fits _ _ _ _ _ _ _ (c .before .before .before .before .before .before .before .before .before .pre .1 .0) (c .before .before .before .before .before .before .before .before .before .pre .1 .1 .1) (c .before .before .before .before .checked-div2 .ensures) (c .before .before .enum-told .given .1) (search needs)
 
-  write-block-returns-2 : write-block-lts.Need-returns-2 write-block-calls write-block-at write-block.Post
-  write-block-returns-2 c = full-placed _ _ _ _ _ _ _ (c .before .before .before .before .before .before .before .before .before .before .pre .1 .1 .1) (c .before .before .before .before .if1 .left) (c .before .before .write-product .ensures .1)
+  write-elements-pass-requires : write-elements-lts.Need-pass-requires write-elements-calls write-elements-at write-elements.Post
+  write-elements-pass-requires c κs = absent-found _ _ _ _ _ _ _ (c .before .before .before .before .before .before .before .before .before .pre .1 .0) (c .before .before .before .before .before .before .before .before .before .pre .1 .1 .1) (c .before .before .before .before .checked-div2 .ensures) (c .before .before .enum-told .given .1) (c .before .held .ensures) (c .if1 .taken)
 
-  abbrev list-start : write-list-lts.After-get write-list-calls write-list-at write-list.Post → write-list-lts.Start write-list-calls write-list-at write-list.Post
-  list-start c = c .before .before .before .before .before .before .before .before .before
+  write-elements-returns : write-elements-lts.Need-returns write-elements-calls write-elements-at write-elements.Post
+  write-elements-returns c = absent-placed _ _ _ _ _ _ _ (c .before .before .before .before .before .before .before .before .before .before .pre .1 .0) (c .before .before .before .before .before .before .before .before .before .before .pre .1 .1 .1) (c .before .before .before .before .before .checked-div2 .ensures) (c .before .before .before .enum-told .given .1) (c .before .before .held .ensures) (c .before .if1 .taken) (c .pass .ensures)
 
-  -- with the half of the bound
-  in-halves : (c : write-list-lts.After-get write-list-calls write-list-at write-list.Post) → Halves (list-start c .args .shape .now) (list-start c .args .level) (list-start c .args .ty .now) (list-start c .args .bound) (c .before .before .half .given .0 .0) (list-start c .args .at) (list-start c .args .q) (list-start c .pre .1 .1 .1 .number) (list-start c .pre .1 .1 .1 .recs) (list-start c .pre .1 .1 .1 .end)
-  in-halves c = halves _ _ _ _ _ _ _ (list-start c .pre .1 .0) (list-start c .pre .1 .1 .1) (c .before .before .before .before .checked-div2 .ensures) (c .before .before .half .given .1)
+  write-elements-add-write-record : write-elements-lts.Need-add-write-record write-elements-calls write-elements-at write-elements.Post
+  write-elements-add-write-record c = two-fits _ _ _ _ _ _ _ (c .before .before .before .before .before .before .before .before .before .pre .1 .0) (c .before .before .before .before .before .before .before .before .before .pre .1 .1 .1) (c .before .before .before .before .checked-div2 .ensures) (c .before .before .enum-told .given .1) (search needs)
 
-  write-list-write-block-requires : write-list-lts.Need-write-block-requires write-list-calls write-list-at write-list.Post
-  write-list-write-block-requires c κs = let p = c .before .before .before .before .before .before .before .before .pre in (omega arith, (omega arith, (p .1 .1 .0, two-ready _ _ _ _ _ _ _ (p .1 .0) (p .1 .1 .1) (c .before .before .before .checked-div2 .ensures) (c .before .enum-told .given .1))))
+  write-elements-write-record-requires : write-elements-lts.Need-write-record-requires write-elements-calls write-elements-at write-elements.Post
+  write-elements-write-record-requires c κs = let p = c .before .before .before .before .before .before .before .before .before .before .pre in (omega arith, (p .1 .1 .0, present-ready _ _ _ _ _ _ _ (c .before .before .before .before .before .before .before .before .before .before .pre .1 .0) (c .before .before .before .before .before .before .before .before .before .before .pre .1 .1 .1) (c .before .before .before .before .before .checked-div2 .ensures) (c .before .before .before .enum-told .given .1) (c .before .before .held .ensures) (c .before .if1 .left)))
 
-  write-list-add-write-block : write-list-lts.Need-add-write-block write-list-calls write-list-at write-list.Post
-  write-list-add-write-block c = list-fits _ _ _ _ _ _ _ (list-start (c) .pre .1 .0) (list-start (c) .pre .1 .1 .1) (c .before .before .before .before .checked-div2 .ensures) (c .before .before .half .given .1) (search needs)
+  write-elements-write-list-requires : write-elements-lts.Need-write-list-requires write-elements-calls write-elements-at write-elements.Post
+  write-elements-write-list-requires c κs = let p = c .before .before .before .before .before .before .before .before .pre in (omega arith, (p .1 .0, (p .1 .1 .0, p .1 .1 .1)))
 
-  write-list-write-block-requires-2 : write-list-lts.Need-write-block-requires-2 write-list-calls write-list-at write-list.Post
-  write-list-write-block-requires-2 c κs =
-      let h = in-halves (c .before) in
-      let l = h .less in
-      let m = bound-small (h .fair) in
-      let e = c .before .get .ensures in
-      (omega arith, (omega arith, (list-start (c .before) .pre .1 .1 .0, block-ready _ _ _ _ _ _ _ (list-start (c .before) .pre .1 .0) (list-start (c .before) .pre .1 .1 .1) (c .before .before .before .before .before .checked-div2 .ensures) (c .before .before .before .half .given .1) (c .before .get .ensures))))
+  write-elements-same-length : write-elements-lts.Need-same-length write-elements-calls write-elements-at write-elements.Post
+  write-elements-same-length c = placed-length (present-ready _ _ _ _ _ _ _ (c .before .before .before .before .before .before .before .before .before .before .before .before .before .pre .1 .0) (c .before .before .before .before .before .before .before .before .before .before .before .before .before .pre .1 .1 .1) (c .before .before .before .before .before .before .before .before .checked-div2 .ensures) (c .before .before .before .before .before .before .enum-told .given .1) (c .before .before .before .before .before .held .ensures) (c .before .before .before .before .if1 .left)) (c .before .before .write-record .ensures)
+
+  write-elements-returns-2 : write-elements-lts.Need-returns-2 write-elements-calls write-elements-at write-elements.Post
+  write-elements-returns-2 c = present-placed _ _ _ _ _ _ _ (c .before .before .before .before .before .before .before .before .before .before .before .before .before .pre .1 .0) (c .before .before .before .before .before .before .before .before .before .before .before .before .before .pre .1 .1 .1) (c .before .before .before .before .before .before .before .before .checked-div2 .ensures) (c .before .before .before .before .before .before .enum-told .given .1) (c .before .before .before .before .before .held .ensures) (c .before .before .before .before .if1 .left) (c .before .before .write-record .ensures)
+
+  write-elements-same-length-2 : write-elements-lts.Need-same-length-2 write-elements-calls write-elements-at write-elements.Post
+  write-elements-same-length-2 c = numbered-length (c .before .before .before .before .before .before .before .before .before .before .before .pre .1 .1 .1) (c .before .before .write-list .ensures)
+
+  write-elements-returns-3 : write-elements-lts.Need-returns-3 write-elements-calls write-elements-at write-elements.Post
+  write-elements-returns-3 c = c .before .before .write-list .ensures
+
+  abbrev list-start : write-list-lts.After-held write-list-calls write-list-at write-list.Post → write-list-lts.Start write-list-calls write-list-at write-list.Post
+  list-start c = c .before .before .before .before .before .before .before
+
+  write-list-add-front : write-list-lts.Need-add-front write-list-calls write-list-at write-list.Post
+  write-list-add-front c = let s = c .before .before .before .before .before in front-fits _ _ _ _ _ _ _ (s .pre .1 .0) (s .pre .1 .1 .1) (c .pairs-before .ensures) refl (search needs)
+
+  write-list-held-requires : write-list-lts.Need-held-requires write-list-calls write-list-at write-list.Post
+  write-list-held-requires c κs = let s = c .before .before .before .before .before .before in front-inside _ _ _ _ _ _ _ (s .pre .1 .0) (s .pre .1 .1 .1) (c .before .pairs-before .ensures) (ap (λ n. n / 2) (c .get .ensures))
+
+  write-list-add-write-product : write-list-lts.Need-add-write-product write-list-calls write-list-at write-list.Post
+  write-list-add-write-product c = elements-fit _ _ _ _ _ _ _ (list-start c .pre .1 .0) (list-start c .pre .1 .1 .1) (c .before .before .pairs-before .ensures) (ap (λ n. n / 2) (c .before .get .ensures)) (search needs)
+
+  write-list-write-product-requires : write-list-lts.Need-write-product-requires write-list-calls write-list-at write-list.Post
+  write-list-write-product-requires c κs =
+      let l = front-few _ _ _ _ _ _ _ (list-start (c .before) .pre .1 .0) (list-start (c .before) .pre .1 .1 .1) (c .before .before .before .pairs-before .ensures) (ap (λ n. n / 2) (c .before .before .get .ensures)) (c .before .held .ensures) in
+      let m = bound-small (list-start (c .before) .pre .1 .0) in
+      (omega arith, (omega arith, (given-copies _ (list-start (c .before) .pre .1 .1 .0), elements-ready _ _ _ _ _ _ _ (list-start (c .before) .pre .1 .0) (list-start (c .before) .pre .1 .1 .1) (c .before .before .before .pairs-before .ensures) (ap (λ n. n / 2) (c .before .before .get .ensures)) (c .before .held .ensures))))
 
   write-list-sub-write-list : write-list-lts.Need-sub-write-list write-list-calls write-list-at write-list.Post
-  write-list-sub-write-list c = block-ends _ _ _ _ _ _ _ (list-start (c .before .before .before .before) .pre .1 .0) (list-start (c .before .before .before .before) .pre .1 .1 .1) (c .before .before .before .before .before .before .before .before .checked-div2 .ensures) (c .before .before .before .before .before .before .half .given .1) (c .before .before .before .before .get .ensures) (c .before .before .write-block2 .ensures)
+  write-list-sub-write-list c = elements-end _ _ _ _ _ _ _ (list-start (c .before .before .before .before .before .before .before .before) .pre .1 .0) (list-start (c .before .before .before .before .before .before .before .before) .pre .1 .1 .1) (c .before .before .before .before .before .before .before .before .before .before .pairs-before .ensures) (ap (λ n. n / 2) (c .before .before .before .before .before .before .before .before .before .get .ensures)) (c .before .before .before .before .before .before .before .before .held .ensures) (c .before .before .before .before .before .before .write-product .ensures .1) (c .before .before .before .checked-div2 .ensures) (c .before .half .given .1)
 
   write-list-part-write-list-start : write-list-lts.Need-part-write-list-start write-list-calls write-list-at write-list.Post
-  write-list-part-write-list-start c = block-ends _ _ _ _ _ _ _ (list-start (c .before .before .before .before) .pre .1 .0) (list-start (c .before .before .before .before) .pre .1 .1 .1) (c .before .before .before .before .before .before .before .before .checked-div2 .ensures) (c .before .before .before .before .before .before .half .given .1) (c .before .before .before .before .get .ensures) (c .before .before .write-block2 .ensures)
+  write-list-part-write-list-start c = elements-end _ _ _ _ _ _ _ (list-start (c .before .before .before .before .before .before .before .before) .pre .1 .0) (list-start (c .before .before .before .before .before .before .before .before) .pre .1 .1 .1) (c .before .before .before .before .before .before .before .before .before .before .pairs-before .ensures) (ap (λ n. n / 2) (c .before .before .before .before .before .before .before .before .before .get .ensures)) (c .before .before .before .before .before .before .before .before .held .ensures) (c .before .before .before .before .before .before .write-product .ensures .1) (c .before .before .before .checked-div2 .ensures) (c .before .half .given .1)
 
   write-list-write-list-requires : write-list-lts.Need-write-list-requires write-list-calls write-list-at write-list.Post
   write-list-write-list-requires c κs =
-      let h = in-halves (c .before .before .before .before .before) in
-      let l = h .less in
-      (omega arith, (h .fair, (list-start (c .before .before .before .before .before) .pre .1 .1 .0, list-ready _ _ _ _ _ _ _ (list-start (c .before .before .before .before .before) .pre .1 .0) (list-start (c .before .before .before .before .before) .pre .1 .1 .1) (c .before .before .before .before .before .before .before .before .before .checked-div2 .ensures) (c .before .before .before .before .before .before .before .half .given .1) (c .before .before .before .before .before .get .ensures) (c .before .before .before .write-block2 .ensures))))
+      let s = list-start (c .before .before .before .before .before .before .before .before .before) in
+      let i = halves _ _ _ _ _ _ _ (s .pre .1 .0) (s .pre .1 .1 .1) (c .before .before .before .before .checked-div2 .ensures) (c .before .before .half .given .1) in
+      let l = i .less in
+      (omega arith, (i .fair, (s .pre .1 .1 .0, rest-ready _ _ _ _ _ _ _ (list-start (c .before .before .before .before .before .before .before .before .before) .pre .1 .0) (list-start (c .before .before .before .before .before .before .before .before .before) .pre .1 .1 .1) (c .before .before .before .before .before .before .before .before .before .before .before .pairs-before .ensures) (ap (λ n. n / 2) (c .before .before .before .before .before .before .before .before .before .before .get .ensures)) (c .before .before .before .before .before .before .before .before .before .held .ensures) (c .before .before .before .before .before .before .before .write-product .ensures .1) (c .before .before .before .before .checked-div2 .ensures) (c .before .before .half .given .1))))
 
-  write-list-add-t18 : write-list-lts.Need-add-t18 write-list-calls write-list-at write-list.Post
-  write-list-add-t18 c = omega (arith, count-small _ _ _ _ _ _ _ (list-start (c .before .before .before .before .before .before .before .before .before .before) .pre .1 .0) (list-start (c .before .before .before .before .before .before .before .before .before .before) .pre .1 .1 .1) (c .before .before .before .before .before .before .before .before .before .before .before .before .before .before .checked-div2 .ensures) (c .before .before .before .before .before .before .before .before .before .before .before .before .half .given .1) (c .before .before .before .before .before .before .before .before .before .before .get .ensures) (c .before .before .before .before .before .before .before .before .write-block2 .ensures) (c .before .before .before .before .write-list .ensures), bound-small (list-start (c .before .before .before .before .before .before .before .before .before .before) .pre .1 .0))
+  write-list-add-t22 : write-list-lts.Need-add-t22 write-list-calls write-list-at write-list.Post
+  write-list-add-t22 c = omega (arith, count-small _ _ _ _ _ _ _ (list-start (c .before .before .before .before .before .before .before .before .before .before .before .before .before) .pre .1 .0) (list-start (c .before .before .before .before .before .before .before .before .before .before .before .before .before) .pre .1 .1 .1) (c .before .before .before .before .before .before .before .before .before .before .before .before .before .before .before .pairs-before .ensures) (ap (λ n. n / 2) (c .before .before .before .before .before .before .before .before .before .before .before .before .before .before .get .ensures)) (c .before .before .before .before .before .before .before .before .before .before .before .before .before .held .ensures) (c .before .before .before .before .before .before .before .before .before .before .before .write-product .ensures .1) (c .before .before .before .before .before .before .before .before .checked-div2 .ensures) (c .before .before .before .before .before .before .half .given .1) (c .before .before .before .write-list .ensures), bound-small (list-start (c .before .before .before .before .before .before .before .before .before .before .before .before .before) .pre .1 .0))
 
-  write-list-add-t17 : write-list-lts.Need-add-t17 write-list-calls write-list-at write-list.Post
-  write-list-add-t17 c = let g = c .before .before .before .before .before .before .before .before .before .before .before .before .before .before .before .before .before .before .before .before .good in omega (arith, list-small _ _ _ _ _ _ _ (list-start (c .before .before .before .before .before .before .before .before .before .before .before) .pre .1 .0) (list-start (c .before .before .before .before .before .before .before .before .before .before .before) .pre .1 .1 .1) (c .before .before .before .before .before .before .before .before .before .before .before .before .before .before .before .checked-div2 .ensures) (c .before .before .before .before .before .before .before .before .before .before .before .before .before .half .given .1) (c .before .before .before .before .before .before .before .before .before .before .before .get .ensures) (c .before .before .before .before .before .before .before .before .before .write-block2 .ensures) (c .before .before .before .before .before .write-list .ensures))
+  write-list-add-t25 : write-list-lts.Need-add-t25 write-list-calls write-list-at write-list.Post
+  write-list-add-t25 c = let g = list-start (c .before .before .before .before .before .before .before .before .before .before .before .before .before .before) .good in omega (arith, rest-small _ _ _ _ _ _ _ (list-start (c .before .before .before .before .before .before .before .before .before .before .before .before .before .before) .pre .1 .0) (list-start (c .before .before .before .before .before .before .before .before .before .before .before .before .before .before) .pre .1 .1 .1) (c .before .before .before .before .before .before .before .before .before .before .before .before .before .before .before .before .pairs-before .ensures) (ap (λ n. n / 2) (c .before .before .before .before .before .before .before .before .before .before .before .before .before .before .before .get .ensures)) (c .before .before .before .before .before .before .before .before .before .before .before .before .before .before .held .ensures) (c .before .before .before .before .before .before .before .before .before .before .before .before .write-product .ensures .1) (c .before .before .before .before .before .before .before .before .before .checked-div2 .ensures) (c .before .before .before .before .before .before .before .half .given .1) (c .before .before .before .before .write-list .ensures))
 
   write-list-same-length : write-list-lts.Need-same-length write-list-calls write-list-at write-list.Post
-  write-list-same-length c = numbered-length (two-ready _ _ _ _ _ _ _ (c .before .before .before .before .before .before .before .before .before .before .before .pre .1 .0) (c .before .before .before .before .before .before .before .before .before .before .before .pre .1 .1 .1) (c .before .before .before .before .before .before .checked-div2 .ensures) (c .before .before .before .before .enum-told .given .1)) (c .before .before .write-block .ensures)
+  write-list-same-length c = placed-length (elements-ready _ _ _ _ _ _ _ (list-start (c .before .before .before .before .before .before .before) .pre .1 .0) (list-start (c .before .before .before .before .before .before .before) .pre .1 .1 .1) (c .before .before .before .before .before .before .before .before .before .pairs-before .ensures) (ap (λ n. n / 2) (c .before .before .before .before .before .before .before .before .get .ensures)) (c .before .before .before .before .before .before .before .held .ensures)) (c .before .before .before .before .before .write-product .ensures .1)
 
   write-list-returns : write-list-lts.Need-returns write-list-calls write-list-at write-list.Post
-  write-list-returns c = two-placed _ _ _ _ _ _ _ (c .before .before .before .before .before .before .before .before .before .before .before .pre .1 .0) (c .before .before .before .before .before .before .before .before .before .before .before .pre .1 .1 .1) (c .before .before .before .before .before .before .checked-div2 .ensures) (c .before .before .before .before .enum-told .given .1) (c .before .before .write-block .ensures)
+  write-list-returns c = alone-placed _ _ _ _ _ _ _ (list-start (c .before .before .before .before .before .before .before) .pre .1 .0) (list-start (c .before .before .before .before .before .before .before) .pre .1 .1 .1) (c .before .before .before .before .before .before .before .before .before .pairs-before .ensures) (ap (λ n. n / 2) (c .before .before .before .before .before .before .before .before .get .ensures)) (c .before .before .before .before .before .before .before .held .ensures) (c .before .before .before .before .before .write-product .ensures .1) (c .before .before .checked-div2 .ensures) (c .enum-told .given .1)
 
   write-list-same-length-2 : write-list-lts.Need-same-length-2 write-list-calls write-list-at write-list.Post
-  write-list-same-length-2 c = numbered-length (c .before .before .before .before .before .before .before .before .before .before .before .before .before .before .before .before .before .before .before .before .pre .1 .1 .1) (list-placed _ _ _ _ _ _ _ (list-start (c .before .before .before .before .before .before .before .before .before .before .before) .pre .1 .0) (list-start (c .before .before .before .before .before .before .before .before .before .before .before) .pre .1 .1 .1) (c .before .before .before .before .before .before .before .before .before .before .before .before .before .before .before .checked-div2 .ensures) (c .before .before .before .before .before .before .before .before .before .before .before .before .before .half .given .1) (c .before .before .before .before .before .before .before .before .before .before .before .get .ensures) (c .before .before .before .before .before .before .before .before .before .write-block2 .ensures) (c .before .before .before .before .before .write-list .ensures))
+  write-list-same-length-2 c = numbered-length (list-start (c .before .before .before .before .before .before .before .before .before .before .before .before .before .before) .pre .1 .1 .1) (rest-placed _ _ _ _ _ _ _ (list-start (c .before .before .before .before .before .before .before .before .before .before .before .before .before .before) .pre .1 .0) (list-start (c .before .before .before .before .before .before .before .before .before .before .before .before .before .before) .pre .1 .1 .1) (c .before .before .before .before .before .before .before .before .before .before .before .before .before .before .before .before .pairs-before .ensures) (ap (λ n. n / 2) (c .before .before .before .before .before .before .before .before .before .before .before .before .before .before .before .get .ensures)) (c .before .before .before .before .before .before .before .before .before .before .before .before .before .before .held .ensures) (c .before .before .before .before .before .before .before .before .before .before .before .before .write-product .ensures .1) (c .before .before .before .before .before .before .before .before .before .checked-div2 .ensures) (c .before .before .before .before .before .before .before .half .given .1) (c .before .before .before .before .write-list .ensures))
 
   write-list-returns-2 : write-list-lts.Need-returns-2 write-list-calls write-list-at write-list.Post
-  write-list-returns-2 c = list-placed _ _ _ _ _ _ _ (list-start (c .before .before .before .before .before .before .before .before .before .before .before) .pre .1 .0) (list-start (c .before .before .before .before .before .before .before .before .before .before .before) .pre .1 .1 .1) (c .before .before .before .before .before .before .before .before .before .before .before .before .before .before .before .checked-div2 .ensures) (c .before .before .before .before .before .before .before .before .before .before .before .before .before .half .given .1) (c .before .before .before .before .before .before .before .before .before .before .before .get .ensures) (c .before .before .before .before .before .before .before .before .before .write-block2 .ensures) (c .before .before .before .before .before .write-list .ensures)
+  write-list-returns-2 c = rest-placed _ _ _ _ _ _ _ (list-start (c .before .before .before .before .before .before .before .before .before .before .before .before .before .before) .pre .1 .0) (list-start (c .before .before .before .before .before .before .before .before .before .before .before .before .before .before) .pre .1 .1 .1) (c .before .before .before .before .before .before .before .before .before .before .before .before .before .before .before .before .pairs-before .ensures) (ap (λ n. n / 2) (c .before .before .before .before .before .before .before .before .before .before .before .before .before .before .before .get .ensures)) (c .before .before .before .before .before .before .before .before .before .before .before .before .before .before .held .ensures) (c .before .before .before .before .before .before .before .before .before .before .before .before .write-product .ensures .1) (c .before .before .before .before .before .before .before .before .before .checked-div2 .ensures) (c .before .before .before .before .before .before .before .half .given .1) (c .before .before .before .before .write-list .ensures)
 
   abbrev product-start : write-product-lts.After-btree-split-index write-product-calls write-product-at write-product.Post → write-product-lts.Start write-product-calls write-product-at write-product.Post
   product-start c = c .before .before .before .before .before .before .before
@@ -178,11 +202,11 @@ module _ (t : ℕ) where
   parts : (c : write-product-lts.After-btree-split-index write-product-calls write-product-at write-product.Post) → Shares (product-start c .args .n) (c .btree-split-index .result)
   parts c = let l = c .before .if2 .left in let m = c .before .before .if1 .left in shares (c .btree-split-index .ensures) (omega arith)
 
-  write-product-mul-t21 : write-product-lts.Need-mul-t21 write-product-calls write-product-at write-product.Post
-  write-product-mul-t21 c = omega (arith, stands-inside (one-given (c .before .before .before .before .before .before .before .before .before .before .before .before .pre .1 .1 .0) (c .before .before .before .before .before .before .if2 .taken)))
+  write-product-mul-t20 : write-product-lts.Need-mul-t20 write-product-calls write-product-at write-product.Post
+  write-product-mul-t20 c = omega (arith, stands-inside (one-given (c .before .before .before .before .before .before .before .before .before .before .before .before .pre .1 .1 .0) (c .before .before .before .before .before .before .if2 .taken)))
 
-  write-product-shared-slice-read-t23 : write-product-lts.Need-shared-slice-read-t23 write-product-calls write-product-at write-product.Post
-  write-product-shared-slice-read-t23 c = stands-inside (one-given (c .before .before .before .before .before .before .before .before .before .before .before .before .before .pre .1 .1 .0) (c .before .before .before .before .before .before .before .if2 .taken))
+  write-product-shared-slice-read-t22 : write-product-lts.Need-shared-slice-read-t22 write-product-calls write-product-at write-product.Post
+  write-product-shared-slice-read-t22 c = stands-inside (one-given (c .before .before .before .before .before .before .before .before .before .before .before .before .before .pre .1 .1 .0) (c .before .before .before .before .before .before .before .if2 .taken))
 
   write-product-sub-others : write-product-lts.Need-sub-others write-product-calls write-product-at write-product.Post
   write-product-sub-others c = let l = parts c .less in omega arith
@@ -208,8 +232,8 @@ module _ (t : ℕ) where
       let m = s .some in
       (omega arith, (omega arith, (right-given s (p .1 .1 .0) (v .0), right-ready _ _ _ _ _ _ _ _ (product-start (c .before .before .before .before .before) .pre .1 .1 .1) (parts (c .before .before .before .before .before)) (v .1) (v .0))))
 
-  write-product-add-t24 : write-product-lts.Need-add-t24 write-product-calls write-product-at write-product.Post
-  write-product-add-t24 c = let g = c .before .before .before .before .before .before .before .before .before .before .before .before .before .before .before .before .good in let v = c .before .before .before .before .before .before .before .write-product .ensures in omega (arith, sides-small _ _ _ _ _ _ _ _ (product-start (c .before .before .before .before .before .before .before .before .before) .pre .1 .1 .1) (parts (c .before .before .before .before .before .before .before .before .before)) (v .1) (v .0) (c .before .before .before .write-product2 .ensures .1))
+  write-product-add-t23 : write-product-lts.Need-add-t23 write-product-calls write-product-at write-product.Post
+  write-product-add-t23 c = let g = c .before .before .before .before .before .before .before .before .before .before .before .before .before .before .before .before .good in let v = c .before .before .before .before .before .before .before .write-product .ensures in omega (arith, sides-small _ _ _ _ _ _ _ _ (product-start (c .before .before .before .before .before .before .before .before .before) .pre .1 .1 .1) (parts (c .before .before .before .before .before .before .before .before .before)) (v .1) (v .0) (c .before .before .before .write-product2 .ensures .1))
 
   write-product-same-length-3 : write-product-lts.Need-same-length-3 write-product-calls write-product-at write-product.Post
   write-product-same-length-3 c = let v = c .before .before .before .before .before .before .before .write-product .ensures in placed-length (c .before .before .before .before .before .before .before .before .before .before .before .before .before .before .before .before .pre .1 .1 .1) (sides-placed _ _ _ _ _ _ _ _ (product-start (c .before .before .before .before .before .before .before .before .before) .pre .1 .1 .1) (parts (c .before .before .before .before .before .before .before .before .before)) (v .1) (v .0) (c .before .before .before .write-product2 .ensures .1))
@@ -327,14 +351,14 @@ module _ (t : ℕ) where
   write-record-add-t45 : write-record-lts.Need-add-t45 write-record-calls write-record-at write-record.Post
   write-record-add-t45 c = let g = c .before .before .before .before .before .before .before .before .before .before .before .before .before .before .before .before .before .before .good in omega (arith, numbered-small (sum-under (c .before .before .before .before .before .before .before .before .before .before)) (c .before .before .before .before .before .before .before .write-sum .ensures))
 
-  write-record-sub-write-list-2 : write-record-lts.Need-sub-write-list-2 write-record-calls write-record-at write-record.Post
-  write-record-sub-write-list-2 c = numbered-start (list-under (c .before))
+  write-record-sub-write-elements-2 : write-record-lts.Need-sub-write-elements-2 write-record-calls write-record-at write-record.Post
+  write-record-sub-write-elements-2 c = numbered-start (list-under (c .before))
 
-  write-record-part-write-list-start : write-record-lts.Need-part-write-list-start write-record-calls write-record-at write-record.Post
-  write-record-part-write-list-start c = numbered-start (list-under (c .before))
+  write-record-part-write-elements-start : write-record-lts.Need-part-write-elements-start write-record-calls write-record-at write-record.Post
+  write-record-part-write-elements-start c = numbered-start (list-under (c .before))
 
-  write-record-write-list-requires : write-record-lts.Need-write-list-requires write-record-calls write-record-at write-record.Post
-  write-record-write-list-requires c κs =
+  write-record-write-elements-requires : write-record-lts.Need-write-elements-requires write-record-calls write-record-at write-record.Post
+  write-record-write-elements-requires c κs =
       let i = list-here (c .before .before) in
       let l = level-some (c .before .before .before .before .before .before .before .before .before .before .pre .1 .0) in
       let m = bound-small (i .fair) in
@@ -343,12 +367,12 @@ module _ (t : ℕ) where
   write-record-write-mark-requires-5 : write-record-lts.Need-write-mark-requires-5 write-record-calls write-record-at write-record.Post
   write-record-write-mark-requires-5 c κs =
       let i = list-here (c .before .before .before .before .before .before) in
-      let v = c .before .before .before .write-list .ensures in
+      let v = c .before .before .before .write-elements .ensures in
       let l = count-below _ _ _ _ _ _ (list-under (c .before .before .before .before .before .before)) (i .fair) v in
       (numbered-back (list-under (c .before .before .before .before .before .before)) v, (c .before .before .before .before .before .before .before .before .before .head-at .ensures .1, i .marks _ l))
 
   write-record-add-t54 : write-record-lts.Need-add-t54 write-record-calls write-record-at write-record.Post
-  write-record-add-t54 c = let g = c .before .before .before .before .before .before .before .before .before .before .before .before .before .before .before .before .before .before .good in omega (arith, numbered-small (list-under (c .before .before .before .before .before .before .before .before .before .before)) (c .before .before .before .before .before .before .before .write-list .ensures))
+  write-record-add-t54 c = let g = c .before .before .before .before .before .before .before .before .before .before .before .before .before .before .before .before .before .before .good in omega (arith, numbered-small (list-under (c .before .before .before .before .before .before .before .before .before .before)) (c .before .before .before .before .before .before .before .write-elements .ensures))
 
   write-record-write-product-requires-2 : write-record-lts.Need-write-product-requires-2 write-record-calls write-record-at write-record.Post
   write-record-write-product-requires-2 c κs =
@@ -385,10 +409,10 @@ module _ (t : ℕ) where
   write-record-returns-5 c = numbered-placed (sum-under (c .before .before .before .before .before .before .before .before .before .before)) (c .before .before .before .before .before .before .before .write-sum .ensures) (c .before .before .before .write-mark4 .ensures)
 
   write-record-same-length-5 : write-record-lts.Need-same-length-5 write-record-calls write-record-at write-record.Post
-  write-record-same-length-5 c = placed-length (c .before .before .before .before .before .before .before .before .before .before .before .before .before .before .before .before .before .before .pre .1 .1) (numbered-placed (list-under (c .before .before .before .before .before .before .before .before .before .before)) (c .before .before .before .before .before .before .before .write-list .ensures) (c .before .before .before .write-mark5 .ensures))
+  write-record-same-length-5 c = placed-length (c .before .before .before .before .before .before .before .before .before .before .before .before .before .before .before .before .before .before .pre .1 .1) (numbered-placed (list-under (c .before .before .before .before .before .before .before .before .before .before)) (c .before .before .before .before .before .before .before .write-elements .ensures) (c .before .before .before .write-mark5 .ensures))
 
   write-record-returns-6 : write-record-lts.Need-returns-6 write-record-calls write-record-at write-record.Post
-  write-record-returns-6 c = numbered-placed (list-under (c .before .before .before .before .before .before .before .before .before .before)) (c .before .before .before .before .before .before .before .write-list .ensures) (c .before .before .before .write-mark5 .ensures)
+  write-record-returns-6 c = numbered-placed (list-under (c .before .before .before .before .before .before .before .before .before .before)) (c .before .before .before .before .before .before .before .write-elements .ensures) (c .before .before .before .write-mark5 .ensures)
 
   write-record-same-length-6 : write-record-lts.Need-same-length-6 write-record-calls write-record-at write-record.Post
   write-record-same-length-6 c = placed-length (c .before .before .before .before .before .before .before .before .before .before .before .before .before .pre .1 .1) (placed-as (payload-is _ _ _ _ _ _ (c .before .before .before .before .before .before .before .before .before .before .before .before .before .pre .1 .1) (payload-here (c .before .before .before .before .before))) (c .before .before .write-product2 .ensures .1))
@@ -461,11 +485,11 @@ module _ (t : ℕ) where
   write-sum-returns-3 : write-sum-lts.Need-returns-3 write-sum-calls write-sum-at write-sum.Post
   write-sum-returns-3 c = others-placed _ _ _ _ _ _ _ _ (sum-start (c .before .before .before .before .before .before .before) .pre .1 .1 .1) (choices (c .before .before .before .before .before .before .before)) (c .before .before .before .before .before .if2 .left) (c .before .before .before .before .hop .ensures) (c .before .before .write-sum2 .ensures)
 
-pub +write-block+write-list+write-product+write-record+write-sum-spec : {M : Type 1} → statement M
-+write-block+write-list+write-product+write-record+write-sum-spec =
-    close μ-write-block μ-write-list μ-write-product μ-write-record μ-write-sum
-    (λ t. write-block-lts.spec (write-block-calls t) (write-block-at t) write-block.Post (λ c. search steps) (λ c. search steps) (λ c. search steps) (λ c. search steps) (write-block-write-product-requires t) (write-block-same-length t) (write-block-returns-2 t))
-    (λ t. write-list-lts.spec (write-list-calls t) (write-list-at t) write-list.Post (λ c κs. search steps) (λ c. search steps) (write-list-write-block-requires t) (λ c. search steps) (λ c κs. search steps) (write-list-add-write-block t) (write-list-write-block-requires-2 t) (write-list-sub-write-list t) (write-list-part-write-list-start t) (λ c. search steps) (write-list-write-list-requires t) (write-list-add-t18 t) (write-list-add-t17 t) (write-list-same-length t) (write-list-returns t) (write-list-same-length-2 t) (write-list-returns-2 t))
-    (λ t. write-product-lts.spec (write-product-calls t) (write-product-at t) write-product.Post (λ c κs. search steps) (λ c. search steps) (λ c κs. search steps) (λ c. search steps) (λ c. search steps) (write-product-mul-t21 t) (write-product-shared-slice-read-t23 t) (λ c. search steps) (λ c. search steps) (λ c. search steps) (λ c. search steps) (λ c κs. search steps) (write-product-sub-others t) (write-product-add-write-product t) (write-product-write-product-requires t) (write-product-sub-write-product t) (write-product-part-write-product-start t) (λ c. search steps) (write-product-write-product-requires-2 t) (write-product-add-t24 t) (write-product-same-length-3 t) (write-product-returns-4 t))
-    (λ t. write-record-lts.spec (write-record-calls t) (write-record-at t) write-record.Post (λ c κs. search steps) (λ c κs. search steps) (λ c. search steps) (λ c. search steps) (write-record-shared-slice-read-side t) (write-record-cast-side t) (write-record-sub-write-mark t) (write-record-write-mark-requires t) (write-record-add-t27 t) (λ c. search steps) (write-record-write-mark-requires-2 t) (write-record-sub-write-integer t) (write-record-part-write-integer-start t) (write-record-part-write-integer-end t) (write-record-write-integer-requires t) (λ c. search steps) (λ c. search steps) (λ c. search steps) (write-record-sub-write-product-2 t) (write-record-part-write-product-start t) (λ c. search steps) (write-record-write-product-requires t) (write-record-write-mark-requires-3 t) (write-record-add-t36 t) (λ c. search steps) (λ c. search steps) (λ c. search steps) (write-record-sub-write-sum-2 t) (write-record-part-write-sum-start t) (λ c. search steps) (write-record-write-sum-requires t) (write-record-write-mark-requires-4 t) (write-record-add-t45 t) (λ c. search steps) (λ c. search steps) (λ c. search steps) (write-record-sub-write-list-2 t) (write-record-part-write-list-start t) (λ c. search steps) (write-record-write-list-requires t) (write-record-write-mark-requires-5 t) (write-record-add-t54 t) (λ c. search steps) (λ c. search steps) (λ c. search steps) (write-record-write-product-requires-2 t) (write-record-returns t) (write-record-same-length t) (write-record-returns-2 t) (write-record-same-length-2 t) (write-record-returns-3 t) (write-record-same-length-3 t) (write-record-returns-4 t) (write-record-same-length-4 t) (write-record-returns-5 t) (write-record-same-length-5 t) (write-record-returns-6 t) (write-record-same-length-6 t) (write-record-returns-7 t))
+pub +write-elements+write-list+write-product+write-record+write-sum-spec : {M : Type 1} → statement M
++write-elements+write-list+write-product+write-record+write-sum-spec =
+    close μ-write-elements μ-write-list μ-write-product μ-write-record μ-write-sum
+    (λ t. write-elements-lts.spec (write-elements-calls t) (write-elements-at t) write-elements.Post (λ c κs. search steps) (λ c. search steps) (write-elements-held-requires t) (write-elements-add-pass t) (write-elements-pass-requires t) (write-elements-returns t) (write-elements-add-write-record t) (write-elements-write-record-requires t) (λ c. search steps) (write-elements-write-list-requires t) (write-elements-same-length t) (write-elements-returns-2 t) (write-elements-same-length-2 t) (write-elements-returns-3 t))
+    (λ t. write-list-lts.spec (write-list-calls t) (write-list-at t) write-list.Post (λ c κs. search steps) (write-list-add-front t) (λ c κs. search steps) (write-list-held-requires t) (write-list-add-write-product t) (write-list-write-product-requires t) (λ c κs. search steps) (λ c. search steps) (λ c. search steps) (write-list-sub-write-list t) (write-list-part-write-list-start t) (λ c. search steps) (write-list-write-list-requires t) (write-list-add-t22 t) (write-list-add-t25 t) (write-list-same-length t) (write-list-returns t) (write-list-same-length-2 t) (write-list-returns-2 t))
+    (λ t. write-product-lts.spec (write-product-calls t) (write-product-at t) write-product.Post (λ c κs. search steps) (λ c. search steps) (λ c κs. search steps) (λ c. search steps) (λ c. search steps) (write-product-mul-t20 t) (write-product-shared-slice-read-t22 t) (λ c. search steps) (λ c. search steps) (λ c. search steps) (λ c. search steps) (λ c κs. search steps) (write-product-sub-others t) (write-product-add-write-product t) (write-product-write-product-requires t) (write-product-sub-write-product t) (write-product-part-write-product-start t) (λ c. search steps) (write-product-write-product-requires-2 t) (write-product-add-t23 t) (write-product-same-length-3 t) (write-product-returns-4 t))
+    (λ t. write-record-lts.spec (write-record-calls t) (write-record-at t) write-record.Post (λ c κs. search steps) (λ c κs. search steps) (λ c. search steps) (λ c. search steps) (write-record-shared-slice-read-side t) (write-record-cast-side t) (write-record-sub-write-mark t) (write-record-write-mark-requires t) (write-record-add-t27 t) (λ c. search steps) (write-record-write-mark-requires-2 t) (write-record-sub-write-integer t) (write-record-part-write-integer-start t) (write-record-part-write-integer-end t) (write-record-write-integer-requires t) (λ c. search steps) (λ c. search steps) (λ c. search steps) (write-record-sub-write-product-2 t) (write-record-part-write-product-start t) (λ c. search steps) (write-record-write-product-requires t) (write-record-write-mark-requires-3 t) (write-record-add-t36 t) (λ c. search steps) (λ c. search steps) (λ c. search steps) (write-record-sub-write-sum-2 t) (write-record-part-write-sum-start t) (λ c. search steps) (write-record-write-sum-requires t) (write-record-write-mark-requires-4 t) (write-record-add-t45 t) (λ c. search steps) (λ c. search steps) (λ c. search steps) (write-record-sub-write-elements-2 t) (write-record-part-write-elements-start t) (λ c. search steps) (write-record-write-elements-requires t) (write-record-write-mark-requires-5 t) (write-record-add-t54 t) (λ c. search steps) (λ c. search steps) (λ c. search steps) (write-record-write-product-requires-2 t) (write-record-returns t) (write-record-same-length t) (write-record-returns-2 t) (write-record-same-length-2 t) (write-record-returns-3 t) (write-record-same-length-3 t) (write-record-returns-4 t) (write-record-same-length-4 t) (write-record-returns-5 t) (write-record-same-length-5 t) (write-record-returns-6 t) (write-record-same-length-6 t) (write-record-returns-7 t))
     (λ t. write-sum-lts.spec (write-sum-calls t) (write-sum-at t) write-sum.Post (write-sum-write-record-requires t) (write-sum-same-length t) (write-sum-returns t) (write-sum-btree-split-index-requires t) (write-sum-shared-slice-read-if2 t) (write-sum-add-write-sum t) (write-sum-write-sum-requires t) (write-sum-same-length-2 t) (write-sum-returns-2 t) (write-sum-sub-others t) (write-sum-hop-requires t) (write-sum-add-write-sum-2 t) (write-sum-add-write-sum-3 t) (write-sum-write-sum-requires-2 t) (write-sum-same-length-3 t) (write-sum-returns-3 t))

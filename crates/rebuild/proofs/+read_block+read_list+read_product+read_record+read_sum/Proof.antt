@@ -1,4 +1,4 @@
--- The readers of a record, a part, a product, a sum, a block and a list, which call each other. Each reads what it is to read:
+-- The readers of a record, a product, a sum, a block and a list, which call each other. Each reads what it is to read:
 --     a record     the product, the sum or the list that its form says, of what stands below it (`formed`)
 --     a product    of two parts or more a pair, the left side, and the right side behind it (`balanced-step`)
 --     a sum        a left or a right, and the side that it leads to (`chosen-step`)
@@ -20,22 +20,19 @@ use borrow.Fn.Kinds.{In}
 use borrow.Fn.PlainCycle.{Measures, is, falls, and}
 use Rattle.rebuild.proofs.read_block.Reads as read-block
 use Rattle.rebuild.proofs.read_block.Kinds as read-block-kinds
-use Rattle.rebuild.proofs.+read_block+read_list+read_part+read_product+read_record+read_sum.Lts-read_block as read-block-lts
+use Rattle.rebuild.proofs.+read_block+read_list+read_product+read_record+read_sum.Lts-read_block as read-block-lts
 use Rattle.rebuild.proofs.read_list.Reads as read-list
 use Rattle.rebuild.proofs.read_list.Kinds as read-list-kinds
-use Rattle.rebuild.proofs.+read_block+read_list+read_part+read_product+read_record+read_sum.Lts-read_list as read-list-lts
-use Rattle.rebuild.proofs.read_part.Reads as read-part
-use Rattle.rebuild.proofs.read_part.Kinds as read-part-kinds
-use Rattle.rebuild.proofs.+read_block+read_list+read_part+read_product+read_record+read_sum.Lts-read_part as read-part-lts
+use Rattle.rebuild.proofs.+read_block+read_list+read_product+read_record+read_sum.Lts-read_list as read-list-lts
 use Rattle.rebuild.proofs.read_product.Reads as read-product
 use Rattle.rebuild.proofs.read_product.Kinds as read-product-kinds
-use Rattle.rebuild.proofs.+read_block+read_list+read_part+read_product+read_record+read_sum.Lts-read_product as read-product-lts
+use Rattle.rebuild.proofs.+read_block+read_list+read_product+read_record+read_sum.Lts-read_product as read-product-lts
 use Rattle.rebuild.proofs.read_record.Reads as read-record
 use Rattle.rebuild.proofs.read_record.Kinds as read-record-kinds
-use Rattle.rebuild.proofs.+read_block+read_list+read_part+read_product+read_record+read_sum.Lts-read_record as read-record-lts
+use Rattle.rebuild.proofs.+read_block+read_list+read_product+read_record+read_sum.Lts-read_record as read-record-lts
 use Rattle.rebuild.proofs.read_sum.Reads as read-sum
 use Rattle.rebuild.proofs.read_sum.Kinds as read-sum-kinds
-use Rattle.rebuild.proofs.+read_block+read_list+read_part+read_product+read_record+read_sum.Lts-read_sum as read-sum-lts
+use Rattle.rebuild.proofs.+read_block+read_list+read_product+read_record+read_sum.Lts-read_sum as read-sum-lts
 use Rattle.array.proofs.btree_split_index.Reads as btree-split-index-reads
 use Rattle.num.proofs.NonZeroPow2Usize.checked_div2.Reads as checked-div2-reads
 use Rattle.num.proofs.NonZeroPow2Usize.get.Reads as get-reads
@@ -48,17 +45,14 @@ use Rattle.rebuild.proofs.read_bit.Reads as read-bit-reads
 use Rattle.rebuild.proofs.read_unit.Reads as read-unit-reads
 use Rattle.rebuild.proofs.record_at.Reads as record-at-reads
 use Rattle.types.proofs.head_at.Reads as head-at-reads
-use Rattle.rebuild.proofs.+read_block+read_list+read_part+read_product+read_record+read_sum.{statement}
-use Rattle.rebuild.proofs.+read_block+read_list+read_part+read_product+read_record+read_sum.Tie.{close}
+use Rattle.rebuild.proofs.+read_block+read_list+read_product+read_record+read_sum.{statement}
+use Rattle.rebuild.proofs.+read_block+read_list+read_product+read_record+read_sum.Tie.{close}
 
 abbrev μ-read-block : Measures 3 read-block-kinds.ps ℕ
 μ-read-block κs a = a .1 .1 .1 .0 * 2 ^ 17 + a .1 .1 .1 .1 .0 + 2
 
 abbrev μ-read-list : Measures 3 read-list-kinds.ps ℕ
 μ-read-list κs a = a .1 .1 .1 .0 * 2 ^ 17 + a .1 .1 .1 .1 .0 .0 + 4
-
-abbrev μ-read-part : Measures 3 read-part-kinds.ps ℕ
-μ-read-part κs a = a .1 .1 .1 .0 * 2 ^ 17 + 1
 
 abbrev μ-read-product : Measures 3 read-product-kinds.ps ℕ
 μ-read-product κs a = a .1 .1 .1 .0 * 2 ^ 17 + a .1 .1 .1 .1 .0 + 1
@@ -84,12 +78,6 @@ module _ (t : ℕ) where
   abbrev read-list-below : In 3 read-list-kinds.ps
   read-list-below = and 3 read-list-kinds.ps (falls 3 read-list-kinds.ps _<_ μ-read-list t) read-list.Pre
 
-  abbrev read-part-at : In 3 read-part-kinds.ps
-  read-part-at = and 3 read-part-kinds.ps (is 3 read-part-kinds.ps μ-read-part t) read-part.Pre
-
-  abbrev read-part-below : In 3 read-part-kinds.ps
-  read-part-below = and 3 read-part-kinds.ps (falls 3 read-part-kinds.ps _<_ μ-read-part t) read-part.Pre
-
   abbrev read-product-at : In 3 read-product-kinds.ps
   read-product-at = and 3 read-product-kinds.ps (is 3 read-product-kinds.ps μ-read-product t) read-product.Pre
 
@@ -114,11 +102,8 @@ module _ (t : ℕ) where
   abbrev read-list-calls : read-list-lts.Claims
   read-list-calls = (checked-div2-reads.Asked, checked-div2-reads.Learnt, read-block-below, read-block.Post, record-at-reads.Asked, record-at-reads.Learnt, get-reads.Asked, get-reads.Learnt, read-list-below, read-list.Post, plus-reads.Asked, plus-reads.Learnt)
 
-  abbrev read-part-calls : read-part-lts.Claims
-  read-part-calls = (read-bit-reads.Asked, read-bit-reads.Learnt, read-record-below, read-record.Post)
-
   abbrev read-product-calls : read-product-lts.Claims
-  read-product-calls = (read-any-reads.Asked, read-any-reads.Learnt, read-part-below, read-part.Post, record-at-reads.Asked, record-at-reads.Learnt, btree-split-index-reads.Asked, btree-split-index-reads.Learnt, read-product-below, read-product.Post, after-reads.Asked, after-reads.Learnt, plus-reads.Asked, plus-reads.Learnt)
+  read-product-calls = (read-any-reads.Asked, read-any-reads.Learnt, read-bit-reads.Asked, read-bit-reads.Learnt, read-record-below, read-record.Post, record-at-reads.Asked, record-at-reads.Learnt, btree-split-index-reads.Asked, btree-split-index-reads.Learnt, read-product-below, read-product.Post, after-reads.Asked, after-reads.Learnt, plus-reads.Asked, plus-reads.Learnt)
 
   abbrev read-record-calls : read-record-lts.Claims
   read-record-calls = (head-at-reads.Asked, head-at-reads.Learnt, form-of-reads.Asked, form-of-reads.Learnt, read-product-below, read-product.Post, plus-reads.Asked, plus-reads.Learnt, read-sum-below, read-sum.Post, read-list-below, read-list.Post)
@@ -228,12 +213,11 @@ module _ (t : ℕ) where
       let i = g .1 .0 .1 in
       (omega arith, ((omega arith, omega arith), (right-given l (g .1 .1 .0) (c .hop .ensures), g .1 .1 .1)))
 
-pub +read-block+read-list+read-part+read-product+read-record+read-sum-spec : {M : Type 1} → statement M
-+read-block+read-list+read-part+read-product+read-record+read-sum-spec =
-    close μ-read-block μ-read-list μ-read-part μ-read-product μ-read-record μ-read-sum
+pub +read-block+read-list+read-product+read-record+read-sum-spec : {M : Type 1} → statement M
++read-block+read-list+read-product+read-record+read-sum-spec =
+    close μ-read-block μ-read-list μ-read-product μ-read-record μ-read-sum
     (λ t. read-block-lts.spec (read-block-calls t) (read-block-at t) read-block.Post (λ c κs. search steps) (λ c. search steps) (λ c κs. search steps) (λ c. search steps) (λ c. search steps) (λ c κs. search steps) (λ c. search steps) (λ c. search steps))
     (λ t. read-list-lts.spec (read-list-calls t) (read-list-at t) read-list.Post (λ c κs. search steps) (λ c. search steps) (λ c κs. search steps) (λ c. search steps) (λ c κs. search steps) (λ c. search steps) (λ c κs. search steps) (λ c. search steps) (read-list-read-block-requires-2 t) (λ c. search steps) (λ c. search steps) (read-list-read-list-requires t) (λ c κs. search steps) (λ c. search steps) (λ c. search steps) (λ c. search steps))
-    (λ t. read-part-lts.spec (read-part-calls t) (read-part-at t) read-part.Post (λ c. search steps) (λ c κs. search steps) (λ c. search steps) (λ c κs. search steps) (λ c. search steps) (λ c κs. search steps) (λ c. search steps) (λ c. search steps) (λ c. search steps))
-    (λ t. read-product-lts.spec (read-product-calls t) (read-product-at t) read-product.Post (λ c κs. search steps) (λ c. search steps) (λ c κs. search steps) (λ c. search steps) (λ c κs. search steps) (λ c. search steps) (λ c κs. search steps) (read-product-sub-others t) (read-product-add-read-product t) (read-product-read-product-requires t) (λ c. search steps) (λ c. search steps) (read-product-after-requires t) (read-product-read-product-requires-2 t) (λ c κs. search steps) (λ c. search steps) (λ c. search steps))
+    (λ t. read-product-lts.spec (read-product-calls t) (read-product-at t) read-product.Post (λ c κs. search steps) (λ c. search steps) (λ c. search steps) (λ c κs. search steps) (λ c. search steps) (λ c κs. search steps) (λ c. search steps) (λ c κs. search steps) (λ c. search steps) (λ c. search steps) (λ c. search steps) (λ c κs. search steps) (λ c. search steps) (λ c κs. search steps) (read-product-sub-others t) (read-product-add-read-product t) (read-product-read-product-requires t) (λ c. search steps) (λ c. search steps) (read-product-after-requires t) (read-product-read-product-requires-2 t) (λ c κs. search steps) (λ c. search steps) (λ c. search steps))
     (λ t. read-record-lts.spec (read-record-calls t) (read-record-at t) read-record.Post (λ c κs. search steps) (λ c κs. search steps) (λ c. search steps) (λ c. search steps) (λ c. search steps) (λ c. search steps) (read-record-read-product-requires t) (λ c κs. search steps) (λ c. search steps) (λ c. search steps) (λ c. search steps) (read-record-read-sum-requires t) (λ c κs. search steps) (λ c. search steps) (λ c. search steps) (λ c. search steps) (read-record-read-list-requires t) (λ c κs. search steps) (λ c. search steps) (λ c. search steps) (λ c. search steps) (read-record-read-product-requires-2 t) (λ c. search steps) (λ c. search steps) (λ c. search steps) (λ c. search steps) (λ c. search steps))
     (λ t. read-sum-lts.spec (read-sum-calls t) (read-sum-at t) read-sum.Post (read-sum-read-record-requires t) (λ c. search steps) (λ c κs. search steps) (λ c κs. search steps) (λ c. search steps) (read-sum-read-sum-requires t) (λ c. search steps) (read-sum-sub-others t) (read-sum-hop-requires t) (λ c. search steps) (read-sum-read-sum-requires-2 t) (λ c. search steps) (λ c. search steps))

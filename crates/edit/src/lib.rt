@@ -8,10 +8,8 @@ use reply::Refusal;
 use reply::Reply;
 use value::Checked;
 use value::check_part;
-ghost use mathlib.Core.Path.{_≡_};
 ghost use mathlib.Core.Bool.{false};
-ghost use Rattle.model.specs.Frames.{after};
-ghost use Rattle.model.specs.Operations.{part-read, edited, delivered};
+ghost use Rattle.model.specs.Calls.{PartRead, PartEdit};
 ghost use Rattle.reply.specs.Numbers.{numberOf, lengthOf};
 ghost use Rattle.types.specs.Steps.{Given};
 ghost use Rattle.told.specs.Widths.{Wide};
@@ -29,7 +27,7 @@ pub fn read_part(
     requires { ⌜ Given 32 false (now ty) (now ends) 0 ⌝ }
     requires { ⌜ Wide (now ty) (now ends) (now widths) ⌝ }
     requires { ⌜ Lowered (now ty) ⌝ }
-    ensures { λ r. ⌜ (numberOf r, lengthOf r, now (out .exit)) ≡ delivered (part-read after (now (ty .entry)) (now (frame .entry)) (now (path .entry))) (now (out .entry)) ⌝ }
+    ensures { λ r. ⌜ PartRead (now (ty .entry)) (now (frame .entry)) (now (path .entry)) (now (out .entry)) (numberOf r) (lengthOf r) (now (out .exit)) ⌝ }
 {
     match accept(ty, ends, widths, frame) {
         Accepted::Refused(x) => Reply::Refused(x),
@@ -58,7 +56,7 @@ pub fn edit_part(
     requires { ⌜ Given 32 false (now ty) (now ends) 0 ⌝ }
     requires { ⌜ Wide (now ty) (now ends) (now widths) ⌝ }
     requires { ⌜ Lowered (now ty) ⌝ }
-    ensures { λ r. ⌜ (numberOf r, lengthOf r, now (frame .exit)) ≡ delivered (edited after (now (ty .entry)) (now (frame .entry)) (now (path .entry)) (now (value .entry))) (now (frame .entry)) ⌝ }
+    ensures { λ r. ⌜ PartEdit (now (ty .entry)) (now (frame .entry)) (now (path .entry)) (now (value .entry)) (numberOf r) (lengthOf r) (now (frame .exit)) ⌝ }
 {
     match accept(ty, ends, widths, frame) {
         Accepted::Refused(x) => Reply::Refused(x),

@@ -1,6 +1,7 @@
 -- How an entry's own proof closes: its `Form`, and what the compiler printed of it (`Code`) and of its operation (`Symbol`, `Met`).
 --     enters           a function of the form F, which asks nothing, meets its contract, over an environment γ that has `read_type` and the operation
 --     enters-given     one that asks `Needs`
+-- docs/ENTRIES.md says how an entry is added.
 -- Assumes nothing: both are for every `Model` and every `Running`.
 use mathlib.Core.Path.{_≡_}
 use Prim.Native.Nat.{ℕ}

@@ -16,6 +16,7 @@ pub mod Frames
 pub mod Paths
 pub mod Parts
 pub mod Operations
+pub mod Calls
 pub mod Conditions
 pub mod Edits
 pub mod Laws

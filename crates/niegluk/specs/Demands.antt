@@ -1,56 +1,127 @@
--- Demand 2 of the entries: what one entry leaves in a buffer, the other turns back into the file it came from. A corollary of the entries' equations
--- (their answers are `delivered` of the operations) and of the model's laws. Every list here is what a buffer holds.
-use mathlib.Core.Path.{_≡_, refl}
-use mathlib.Core.List.{List}
-use Prim.Native.Nat.{ℕ, _≤_}
+-- Demand 2 of the entries, said of calls: what a call of one entry left in its buffer, a call of the other turns back into the file it came from.
+-- A corollary of what is promised of each call (`Calls`) and of the model's laws. Every list here is what a slice of bytes held.
+use mathlib.Core.Path.{_≡_, refl, sym, ap, _∙_}
+use mathlib.Core.Bool.{Bool, true, false}
+use mathlib.Core.List.{List, _++_}
+use mathlib.Core.Logic.{_⊎_, inl, inr}
+use Prim.Native.Nat.{ℕ, _≤_, _<_}
+use native.Mathlib.Omega.{arith}
+use lib.Dec.{ltb}
 use lib.ListN.{length, take, drop}
 use lib.Seq.{take-at}
-use borrow.Author.Tests.{le-ltb}
-use Rattle.model.specs.Outcome.{Outcome, done}
+use borrow.Author.Tests.{ltb-true, ltb-false, le-ltb, lt-ltb}
+use Rattle.model.specs.Numbers.{no-room}
+use Rattle.model.specs.Outcome.{Outcome, done, refused}
 use Rattle.model.specs.Bytes.{Bytes}
 use Rattle.model.specs.Frames.{after}
 use Rattle.model.specs.Operations.{shaped, reconstructed, framed, unframed, delivered}
-use Rattle.model.specs.Laws.Demands.{shape-reads-back, belonging-shape-reads, frame-reads-back, accepted-frame-reads}
 use Rattle.model.specs.Conditions.{ShapeBelongs, FrameAccepted}
-use Rattle.structural.specs.Writing.{put}
+use Rattle.model.specs.Laws.Outcome.{done-injective}
+use Rattle.model.specs.Laws.Numbered.{Rows, shaped-row, reconstructed-row, framed-row, unframed-row}
+use Rattle.model.specs.Laws.Demands.{OneValue, shape-reads-back, belonging-shape-reads, frame-reads-back, accepted-frame-reads, frame-accepted}
+use Rattle.model.specs.Calls.{WriteShape, Reconstruct, WriteFrame, ReadFrame}
 
--- a result with room for it is delivered over the front of the buffer
-delivers : (o : Outcome (List ℕ)) (result buffer : List ℕ) → o ≡ done result → length result ≤ length buffer → delivered o buffer ≡ (0, length result, put result buffer)
-unfolding delivered put
-delivers o result buffer h l = rw h (rw (le-ltb (length buffer) (length result) l, delivered) refl)
+-- WHAT IS SAID OF CALLS
 
--- and its length cuts it out again
-cut-out : (result buffer : List ℕ) → take (length result) (put result buffer) ≡ result
-unfolding put
-cut-out result buffer = take-at result (drop (length result) buffer) (length result) refl
+-- a call gives a file: lent a buffer that held `before`, it was answered by the number n and the length len, and the buffer held `left` afterwards
+pub record Gives (file before : List ℕ) (n len : ℕ) (left : List ℕ) : Type 0 where
+  -- with room for the file it was accepted, and the file stands over the buffer's front
+  pub fits : length file ≤ length before → (n ≡ 0) × (len ≡ length file) × (left ≡ file ++ drop (length file) before)
+  -- without, it was refused for that, and the buffer is as it was
+  pub too-long : length before < length file → (n ≡ no-room) × (len ≡ 0) × (left ≡ before)
+
+-- the calls of an entry, for one type file: of the file that it reads, what its buffer held before, the number, the length, and what the buffer held afterwards
+abbrev pub Calls : Type 1
+Calls = List ℕ → List ℕ → ℕ → ℕ → List ℕ → Type 0
+
+-- every call on `file`, whatever its buffer, gives `made`
+abbrev pub Makes : Calls → (file made : List ℕ) → Type 0
+Makes Call file made = (before : List ℕ) (n len : ℕ) (left : List ℕ) → Call file before n len left → Gives made before n len left
+
+-- a call of the one entry on `file` was accepted: of the bytes that it left, as many as its length says, every call of the other makes `file` again
+abbrev pub Returns : (One Other : Calls) → (file : List ℕ) → Type 0
+Returns One Other file = (before : List ℕ) (len : ℕ) (left : List ℕ) → One file before 0 len left → Makes Other (take len left) file
+
+-- FROM OPERATIONS TO CALLS
+
+-- the calls of an entry that delivers an operation
+abbrev calls : (List ℕ → Outcome (List ℕ)) → Calls
+calls op file before n len left = (n, len, left) ≡ delivered (op file) before
+
+-- a number, a length, and what a buffer held afterwards; two that are equal are so in each part
+abbrev Answer : Type 0
+Answer = ℕ × ℕ × List ℕ
+
+parts : (x y : Answer) → x ≡ y → (x .0 ≡ y .0) × (x .1 ≡ y .1) × (x .2 ≡ y .2)
+parts x y h = (ap (λ (a : Answer). a .0) h, ap (λ (a : Answer). a .1) h, ap (λ (a : Answer). a .2) h)
+
+-- what is delivered of a file with room for it, of one without, and of a refusal
+delivers : (o : Outcome (List ℕ)) (file before : List ℕ) → o ≡ done file → length file ≤ length before → delivered o before ≡ (0, length file, file ++ drop (length file) before)
+unfolding delivered
+delivers o file before e l = rw e (rw (le-ltb (length before) (length file) l, delivered) refl)
+
+withholds : (o : Outcome (List ℕ)) (file before : List ℕ) → o ≡ done file → length before < length file → delivered o before ≡ (no-room, 0, before)
+unfolding delivered
+withholds o file before e l = rw e (rw (lt-ltb (length before) (length file) l, delivered) refl)
+
+refuses : (o : Outcome (List ℕ)) (m : ℕ) (before : List ℕ) → o ≡ refused m → delivered o before ≡ (m, 0, before)
+unfolding delivered
+refuses o m before e = rw e refl
+
+-- where the operation gives a file, every call does
+makes : (op : List ℕ → Outcome (List ℕ)) (file made : List ℕ) → op file ≡ done made → Makes (calls op) file made
+makes op file made e before n len left h = record { fits = λ l. parts _ _ (h ∙ delivers (op file) made before e l); too-long = λ l. parts _ _ (h ∙ withholds (op file) made before e l) }
+
+-- where a call was accepted, the operation gives what the call left
+accepted : (o : Outcome (List ℕ)) → ((m : ℕ) → o ≡ refused m → 1 ≤ m) → (before : List ℕ) (len : ℕ) (left : List ℕ) → _≡_ {A = Answer} (0, len, left) (delivered o before) → o ≡ done (take len left)
+accepted o rows before len left h = go o refl
+  where
+    room : (file : List ℕ) → o ≡ done file → (t : Bool) → ltb (length before) (length file) ≡ t → o ≡ done (take len left)
+    room file e true l = let (z, _, _) = parts _ _ (h ∙ withholds o file before e (ltb-true (length before) (length file) l)) in absurd (omega arith)
+    room file e false l =
+        let (_, n, x) = parts _ _ (h ∙ delivers o file before e (ltb-false (length before) (length file) l)) in
+        e ∙ ap done (sym (rw (n, x) (take-at file (drop (length file) before) (length file) refl)))
+
+    go : (x : Outcome (List ℕ)) → o ≡ x → o ≡ done (take len left)
+    go (done file) e = room file e (ltb (length before) (length file)) refl
+    go (refused m) e = let (z, _, _) = parts _ _ (h ∙ refuses o m before e) in absurd (omega (arith, rows m e))
+
+-- where one operation turns back what the other gives, so do the calls
+returns : (one other : List ℕ → Outcome (List ℕ)) (file : List ℕ) → ((m : ℕ) → one file ≡ refused m → 1 ≤ m) → ((x : List ℕ) → one file ≡ done x → other x ≡ done file) → Returns (calls one) (calls other) file
+returns one other file rows back before len left h = makes other (take len left) file (back (take len left) (accepted (one file) rows before len left h))
+
+-- the table has no row 0
+no-zero : {j h k m : ℕ} → 1 ≤ h → Rows 1 j m ⊎ Rows h k m → 1 ≤ m
+no-zero l (inl r) = r .0
+no-zero l (inr r) = omega (arith, r .0)
+
+-- what is read is the one value, which writes the file again
+again : {reads writes : List ℕ → Outcome (List ℕ)} {file : List ℕ} → OneValue reads writes file → (x : List ℕ) → reads file ≡ done x → writes x ≡ done file
+again {writes = writes} r x e = ap writes (done-injective x (r .val) (sym e ∙ r .read)) ∙ r .back
+
+-- DEMAND 2
 
 module _ (ty : List ℕ) (b : Bytes ty) where
-  -- what `write_shape` leaves in a buffer, `reconstruct` turns into the value file it came from
-  pub shape-returns : (val shape out back : List ℕ) → Bytes val → shaped ty val ≡ done shape → length shape ≤ length out → length val ≤ length back
-      → (delivered (shaped ty val) out ≡ (0, length shape, put shape out)) × (delivered (reconstructed ty (take (length shape) (put shape out))) back ≡ (0, length val, put val back))
-  shape-returns val shape out back c h l m = (
-    delivers (shaped ty val) shape out h l,
-    rw (cut-out shape out) (delivers (reconstructed ty shape) val back (shape-reads-back ty b val shape c h) m),
-  )
+  -- what a call of `write_shape` left, a call of `reconstruct` turns into the value file it came from
+  pub shape-returns : (val : List ℕ) → Bytes val → Returns (WriteShape ty) (Reconstruct ty) val
+  shape-returns val c = returns (shaped ty) (reconstructed ty) val (λ m e. no-zero (omega arith) (shaped-row ty val m e)) (λ shape e. shape-reads-back ty b val shape c e)
 
-  -- and of a shape that belongs to the type, `write_shape` writes what `reconstruct` has read
-  pub value-returns : (shape out back : List ℕ) (s : ShapeBelongs ty shape) → let val = belonging-shape-reads ty b shape s .val in length val ≤ length out → length shape ≤ length back
-      → (delivered (reconstructed ty shape) out ≡ (0, length val, put val out)) × (delivered (shaped ty (take (length val) (put val out))) back ≡ (0, length shape, put shape back))
-  value-returns shape out back s l m =
-      let r = belonging-shape-reads ty b shape s in
-      (delivers (reconstructed ty shape) (r .val) out (r .read) l, rw (cut-out (r .val) out) (delivers (shaped ty (r .val)) shape back (r .back) m))
+  -- of a shape that belongs to the type, every call of `reconstruct` makes one value file
+  pub shape-taken : (shape : List ℕ) → ShapeBelongs ty shape → (val : List ℕ) × Makes (Reconstruct ty) shape val
+  shape-taken shape s = let r = belonging-shape-reads ty b shape s in (r .val, makes (reconstructed ty) shape (r .val) (r .read))
 
-  -- what `write_frame` leaves in a buffer, `read_frame` turns into the value file it came from
-  pub frame-returns : (val frame out back : List ℕ) → Bytes val → framed after ty val ≡ done frame → length frame ≤ length out → length val ≤ length back
-      → (delivered (framed after ty val) out ≡ (0, length frame, put frame out)) × (delivered (unframed after ty (take (length frame) (put frame out))) back ≡ (0, length val, put val back))
-  frame-returns val frame out back c h l m = (
-    delivers (framed after ty val) frame out h l,
-    rw (cut-out frame out) (delivers (unframed after ty frame) val back (frame-reads-back ty b after val frame c h) m),
-  )
+  -- and what a call of `reconstruct` left of it, a call of `write_shape` writes to that shape again
+  pub value-returns : (shape : List ℕ) → ShapeBelongs ty shape → Returns (Reconstruct ty) (WriteShape ty) shape
+  value-returns shape s = returns (reconstructed ty) (shaped ty) shape (λ m e. no-zero (omega arith) (reconstructed-row ty shape m e)) (again (belonging-shape-reads ty b shape s))
 
-  -- and of an accepted frame, `write_frame` writes what `read_frame` has read
-  pub frame-again : (frame out back : List ℕ) (c : Bytes frame) (a : FrameAccepted after ty frame) → let val = accepted-frame-reads ty b after frame c a .val in length val ≤ length out → length frame ≤ length back
-      → (delivered (unframed after ty frame) out ≡ (0, length val, put val out)) × (delivered (framed after ty (take (length val) (put val out))) back ≡ (0, length frame, put frame back))
-  frame-again frame out back c a l m =
-      let r = accepted-frame-reads ty b after frame c a in
-      (delivers (unframed after ty frame) (r .val) out (r .read) l, rw (cut-out (r .val) out) (delivers (framed after ty (r .val)) frame back (r .back) m))
+  -- what a call of `write_frame` left, a call of `read_frame` turns into the value file it came from
+  pub frame-returns : (val : List ℕ) → Bytes val → Returns (WriteFrame ty) (ReadFrame ty) val
+  frame-returns val c = returns (framed after ty) (unframed after ty) val (λ m e. no-zero (omega arith) (framed-row after ty val m e)) (λ frame e. frame-reads-back ty b after val frame c e)
+
+  -- of a frame of the type, every call of `read_frame` makes one value file
+  pub frame-taken : (frame : List ℕ) → Bytes frame → FrameAccepted after ty frame → (val : List ℕ) × Makes (ReadFrame ty) frame val
+  frame-taken frame c a = let r = accepted-frame-reads ty b after frame c a in (r .val, makes (unframed after ty) frame (r .val) (r .read))
+
+  -- and what an accepted call of `read_frame` left, whatever the frame, a call of `write_frame` writes to that frame again
+  pub frame-again : (frame : List ℕ) → Bytes frame → Returns (ReadFrame ty) (WriteFrame ty) frame
+  frame-again frame c = returns (unframed after ty) (framed after ty) frame (λ m e. no-zero (omega arith) (unframed-row after ty frame m e)) (λ val e. again (accepted-frame-reads ty b after frame c (frame-accepted ty b after frame c .0 (val, e))) val e)

@@ -1,2 +1,2 @@
--- Demand 2, said of the entries.
+-- Demand 2, said of calls of the entries.
 pub mod Demands

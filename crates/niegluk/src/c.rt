@@ -1,15 +1,14 @@
-// The entries as C functions: the number is the result, and the length goes behind the last pointer.
+// The entries as C functions, with the same promises: the number is the result, and the length goes behind the last pointer.
 use reply::length_of;
 use reply::number;
-ghost use mathlib.Core.Path.{_≡_};
 ghost use Rattle.model.specs.Edits.{Edited};
 ghost use Rattle.model.specs.Frames.{after};
-ghost use Rattle.model.specs.Operations.{lowered, shaped, reconstructed, framed, unframed, part-read, edited, delivered};
+ghost use Rattle.model.specs.Calls.{Lower, WriteShape, Reconstruct, WriteFrame, ReadFrame, PartRead, PartEdit};
 
 // `lower` for C: the number, 0 where the type is lowered; `length` is 0 where it is not.
 #[no_mangle]
 pub extern "C" fn niegluk_lower(ty: &[u8], out: &mut [u8], length: &mut usize) -> u32
-    ensures { λ r. ⌜ (r, now (length .exit), now (out .exit)) ≡ delivered (lowered (now (ty .entry))) (now (out .entry)) ⌝ }
+    ensures { λ r. ⌜ Lower (now (ty .entry)) (now (out .entry)) r (now (length .exit)) (now (out .exit)) ⌝ }
 {
     let lowered = crate::lower(ty, out);
     *length = length_of(lowered);
@@ -24,7 +23,7 @@ pub extern "C" fn niegluk_write_shape(
     out: &mut [u8],
     length: &mut usize,
 ) -> u32
-    ensures { λ r. ⌜ (r, now (length .exit), now (out .exit)) ≡ delivered (shaped (now (ty .entry)) (now (value .entry))) (now (out .entry)) ⌝ }
+    ensures { λ r. ⌜ WriteShape (now (ty .entry)) (now (value .entry)) (now (out .entry)) r (now (length .exit)) (now (out .exit)) ⌝ }
 {
     let shaped = crate::write_shape(ty, value, out);
     *length = length_of(shaped);
@@ -39,7 +38,7 @@ pub extern "C" fn niegluk_reconstruct(
     out: &mut [u8],
     length: &mut usize,
 ) -> u32
-    ensures { λ r. ⌜ (r, now (length .exit), now (out .exit)) ≡ delivered (reconstructed (now (ty .entry)) (now (shape .entry))) (now (out .entry)) ⌝ }
+    ensures { λ r. ⌜ Reconstruct (now (ty .entry)) (now (shape .entry)) (now (out .entry)) r (now (length .exit)) (now (out .exit)) ⌝ }
 {
     let restored = crate::reconstruct(ty, shape, out);
     *length = length_of(restored);
@@ -54,7 +53,7 @@ pub extern "C" fn niegluk_write_frame(
     out: &mut [u8],
     length: &mut usize,
 ) -> u32
-    ensures { λ r. ⌜ (r, now (length .exit), now (out .exit)) ≡ delivered (framed after (now (ty .entry)) (now (value .entry))) (now (out .entry)) ⌝ }
+    ensures { λ r. ⌜ WriteFrame (now (ty .entry)) (now (value .entry)) (now (out .entry)) r (now (length .exit)) (now (out .exit)) ⌝ }
 {
     let framed = crate::write_frame(ty, value, out);
     *length = length_of(framed);
@@ -69,7 +68,7 @@ pub extern "C" fn niegluk_read_frame(
     out: &mut [u8],
     length: &mut usize,
 ) -> u32
-    ensures { λ r. ⌜ (r, now (length .exit), now (out .exit)) ≡ delivered (unframed after (now (ty .entry)) (now (frame .entry))) (now (out .entry)) ⌝ }
+    ensures { λ r. ⌜ ReadFrame (now (ty .entry)) (now (frame .entry)) (now (out .entry)) r (now (length .exit)) (now (out .exit)) ⌝ }
 {
     let unframed = crate::read_frame(ty, frame, out);
     *length = length_of(unframed);
@@ -85,7 +84,7 @@ pub extern "C" fn niegluk_part_read(
     out: &mut [u8],
     length: &mut usize,
 ) -> u32
-    ensures { λ r. ⌜ (r, now (length .exit), now (out .exit)) ≡ delivered (part-read after (now (ty .entry)) (now (frame .entry)) (now (path .entry))) (now (out .entry)) ⌝ }
+    ensures { λ r. ⌜ PartRead (now (ty .entry)) (now (frame .entry)) (now (path .entry)) (now (out .entry)) r (now (length .exit)) (now (out .exit)) ⌝ }
 {
     let read = crate::part_read(ty, frame, path, out);
     *length = length_of(read);
@@ -101,7 +100,7 @@ pub extern "C" fn niegluk_part_edit(
     value: &[u8],
     length: &mut usize,
 ) -> u32
-    ensures { λ r. ⌜ (r, now (length .exit), now (frame .exit)) ≡ delivered (edited after (now (ty .entry)) (now (frame .entry)) (now (path .entry)) (now (value .entry))) (now (frame .entry)) ⌝ }
+    ensures { λ r. ⌜ PartEdit (now (ty .entry)) (now (frame .entry)) (now (path .entry)) (now (value .entry)) r (now (length .exit)) (now (frame .exit)) ⌝ }
     ensures { λ r. ⌜ Edited after (now (ty .entry)) (now (frame .entry)) (now (path .entry)) (now (value .entry)) r (now (length .exit)) (now (frame .exit)) ⌝ }
 {
     let edited = crate::part_edit(ty, frame, path, value);

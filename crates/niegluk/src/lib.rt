@@ -1,19 +1,19 @@
 // The public entries: each takes whole files and a buffer for its result (an edit: the frame that it changes), asks nothing of its caller, and answers a `Reply`.
 // Each owns the table of the type file, lends it to `read_type`, and leaves the rest to its operation. The functions that own the table are proved by hand.
+// What each promises of a call is an equation of `crates/model/specs/Calls.antt`. How an entry is added: docs/ENTRIES.md.
 use entries::Entry;
 use entries::read_type;
 use reply::Reply;
-ghost use mathlib.Core.Path.{_≡_};
 ghost use Rattle.model.specs.Edits.{Edited};
 ghost use Rattle.model.specs.Frames.{after};
-ghost use Rattle.model.specs.Operations.{lowered, shaped, reconstructed, framed, unframed, part-read, edited, delivered};
+ghost use Rattle.model.specs.Calls.{Lower, WriteShape, Reconstruct, WriteFrame, ReadFrame, PartRead, PartEdit};
 ghost use Rattle.reply.specs.Numbers.{numberOf, lengthOf};
 
 mod c;
 
 // Writes the lowered type of a type file over the front of `out`, and answers its length; every byte behind it stays, and all of them where it is refused.
 pub fn lower(ty: &[u8], out: &mut [u8]) -> Reply
-    ensures { λ r. ⌜ (numberOf r, lengthOf r, now (out .exit)) ≡ delivered (lowered (now (ty .entry))) (now (out .entry)) ⌝ }
+    ensures { λ r. ⌜ Lower (now (ty .entry)) (now (out .entry)) (numberOf r) (lengthOf r) (now (out .exit)) ⌝ }
 {
     let mut table = [Entry::NONE; 1024];
     let mut columns = [0usize; 2048];
@@ -23,7 +23,7 @@ pub fn lower(ty: &[u8], out: &mut [u8]) -> Reply
 
 // Writes the shape of a value over the front of `out`, and answers its length; every byte behind it stays, and all of them where it is refused.
 pub fn write_shape(ty: &[u8], value: &[u8], out: &mut [u8]) -> Reply
-    ensures { λ r. ⌜ (numberOf r, lengthOf r, now (out .exit)) ≡ delivered (shaped (now (ty .entry)) (now (value .entry))) (now (out .entry)) ⌝ }
+    ensures { λ r. ⌜ WriteShape (now (ty .entry)) (now (value .entry)) (now (out .entry)) (numberOf r) (lengthOf r) (now (out .exit)) ⌝ }
 {
     let mut table = [Entry::NONE; 1024];
     let mut columns = [0usize; 2048];
@@ -34,7 +34,7 @@ pub fn write_shape(ty: &[u8], value: &[u8], out: &mut [u8]) -> Reply
 // Writes the value file that a shape gives as one of the type over the front of `out`, and answers its length; every byte behind it stays, and all of them where it is refused.
 // It needs no lowering: a Never is refused only where the shape reaches it.
 pub fn reconstruct(ty: &[u8], shape: &[u8], out: &mut [u8]) -> Reply
-    ensures { λ r. ⌜ (numberOf r, lengthOf r, now (out .exit)) ≡ delivered (reconstructed (now (ty .entry)) (now (shape .entry))) (now (out .entry)) ⌝ }
+    ensures { λ r. ⌜ Reconstruct (now (ty .entry)) (now (shape .entry)) (now (out .entry)) (numberOf r) (lengthOf r) (now (out .exit)) ⌝ }
 {
     let mut table = [Entry::NONE; 1024];
     let mut columns = [0usize; 2048];
@@ -44,7 +44,7 @@ pub fn reconstruct(ty: &[u8], shape: &[u8], out: &mut [u8]) -> Reply
 
 // Writes the frame of a value over the front of `out`, and answers its length; every byte behind it stays, and all of them where it is refused.
 pub fn write_frame(ty: &[u8], value: &[u8], out: &mut [u8]) -> Reply
-    ensures { λ r. ⌜ (numberOf r, lengthOf r, now (out .exit)) ≡ delivered (framed after (now (ty .entry)) (now (value .entry))) (now (out .entry)) ⌝ }
+    ensures { λ r. ⌜ WriteFrame (now (ty .entry)) (now (value .entry)) (now (out .entry)) (numberOf r) (lengthOf r) (now (out .exit)) ⌝ }
 {
     let mut table = [Entry::NONE; 1024];
     let mut columns = [0usize; 2048];
@@ -54,7 +54,7 @@ pub fn write_frame(ty: &[u8], value: &[u8], out: &mut [u8]) -> Reply
 
 // Writes the value file of an accepted frame over the front of `out`, and answers its length; every byte behind it stays, and all of them where it is refused.
 pub fn read_frame(ty: &[u8], frame: &[u8], out: &mut [u8]) -> Reply
-    ensures { λ r. ⌜ (numberOf r, lengthOf r, now (out .exit)) ≡ delivered (unframed after (now (ty .entry)) (now (frame .entry))) (now (out .entry)) ⌝ }
+    ensures { λ r. ⌜ ReadFrame (now (ty .entry)) (now (frame .entry)) (now (out .entry)) (numberOf r) (lengthOf r) (now (out .exit)) ⌝ }
 {
     let mut table = [Entry::NONE; 1024];
     let mut columns = [0usize; 2048];
@@ -64,7 +64,7 @@ pub fn read_frame(ty: &[u8], frame: &[u8], out: &mut [u8]) -> Reply
 
 // Writes the value file of the part that a path leads to in an accepted frame over the front of `out`, and answers its length; every byte behind it stays, and all of them where it is refused.
 pub fn part_read(ty: &[u8], frame: &[u8], path: &[u8], out: &mut [u8]) -> Reply
-    ensures { λ r. ⌜ (numberOf r, lengthOf r, now (out .exit)) ≡ delivered (part-read after (now (ty .entry)) (now (frame .entry)) (now (path .entry))) (now (out .entry)) ⌝ }
+    ensures { λ r. ⌜ PartRead (now (ty .entry)) (now (frame .entry)) (now (path .entry)) (now (out .entry)) (numberOf r) (lengthOf r) (now (out .exit)) ⌝ }
 {
     let mut table = [Entry::NONE; 1024];
     let mut columns = [0usize; 2048];
@@ -75,7 +75,7 @@ pub fn part_read(ty: &[u8], frame: &[u8], path: &[u8], out: &mut [u8]) -> Reply
 // Replaces the part that a path leads to in an accepted frame by a value of the part's type, in the frame's own bytes, and answers the frame's length; no bit outside the part's own stretch changes, and none at all where it is refused.
 // The second promise is demand 3, whole.
 pub fn part_edit(ty: &[u8], frame: &mut [u8], path: &[u8], value: &[u8]) -> Reply
-    ensures { λ r. ⌜ (numberOf r, lengthOf r, now (frame .exit)) ≡ delivered (edited after (now (ty .entry)) (now (frame .entry)) (now (path .entry)) (now (value .entry))) (now (frame .entry)) ⌝ }
+    ensures { λ r. ⌜ PartEdit (now (ty .entry)) (now (frame .entry)) (now (path .entry)) (now (value .entry)) (numberOf r) (lengthOf r) (now (frame .exit)) ⌝ }
     ensures { λ r. ⌜ Edited after (now (ty .entry)) (now (frame .entry)) (now (path .entry)) (now (value .entry)) (numberOf r) (lengthOf r) (now (frame .exit)) ⌝ }
 {
     let mut table = [Entry::NONE; 1024];

@@ -16,18 +16,17 @@ use structural::write_lowered;
 use table::RECORDS;
 use value::Checked;
 use value::check_file;
-ghost use mathlib.Core.Path.{_≡_};
 ghost use mathlib.Core.Bool.{true, false};
+ghost use Rattle.model.specs.Calls.{Lower, WriteShape, Reconstruct, WriteFrame, ReadFrame, PartRead, PartEdit};
 ghost use Rattle.model.specs.Edits.{Edited};
 ghost use Rattle.model.specs.Frames.{after};
-ghost use Rattle.model.specs.Operations.{lowered, shaped, reconstructed, framed, unframed, part-read, edited, delivered};
 ghost use Rattle.reply.specs.Numbers.{numberOf, lengthOf};
 ghost use Rattle.entries.specs.Answers.{TypeRead};
 
 // Writes the lowered type of a type file over the front of `out`, and answers its length; every byte behind it stays, and all of them where it is refused.
 pub fn lower(ty: &[u8], read: Read, columns: &[usize], out: &mut [u8]) -> Reply
     requires { ⌜ TypeRead true (now ty) read (now columns) ⌝ }
-    ensures { λ r. ⌜ (numberOf r, lengthOf r, now (out .exit)) ≡ delivered (lowered (now (ty .entry))) (now (out .entry)) ⌝ }
+    ensures { λ r. ⌜ Lower (now (ty .entry)) (now (out .entry)) (numberOf r) (lengthOf r) (now (out .exit)) ⌝ }
 {
     match read {
         Read::Refused(x) => Reply::Refused(x),
@@ -44,7 +43,7 @@ pub fn lower(ty: &[u8], read: Read, columns: &[usize], out: &mut [u8]) -> Reply
 // Writes the shape of a value over the front of `out`, and answers its length; every byte behind it stays, and all of them where it is refused.
 pub fn write_shape(ty: &[u8], read: Read, columns: &[usize], value: &[u8], out: &mut [u8]) -> Reply
     requires { ⌜ TypeRead true (now ty) read (now columns) ⌝ }
-    ensures { λ r. ⌜ (numberOf r, lengthOf r, now (out .exit)) ≡ delivered (shaped (now (ty .entry)) (now (value .entry))) (now (out .entry)) ⌝ }
+    ensures { λ r. ⌜ WriteShape (now (ty .entry)) (now (value .entry)) (now (out .entry)) (numberOf r) (lengthOf r) (now (out .exit)) ⌝ }
 {
     match read {
         Read::Refused(x) => Reply::Refused(x),
@@ -67,7 +66,7 @@ pub fn write_shape(ty: &[u8], read: Read, columns: &[usize], value: &[u8], out: 
 // It needs no lowering: a Never is refused only where the shape reaches it.
 pub fn reconstruct(ty: &[u8], read: Read, columns: &[usize], shape: &[u8], out: &mut [u8]) -> Reply
     requires { ⌜ TypeRead false (now ty) read (now columns) ⌝ }
-    ensures { λ r. ⌜ (numberOf r, lengthOf r, now (out .exit)) ≡ delivered (reconstructed (now (ty .entry)) (now (shape .entry))) (now (out .entry)) ⌝ }
+    ensures { λ r. ⌜ Reconstruct (now (ty .entry)) (now (shape .entry)) (now (out .entry)) (numberOf r) (lengthOf r) (now (out .exit)) ⌝ }
 {
     match read {
         Read::Refused(x) => Reply::Refused(x),
@@ -92,7 +91,7 @@ pub fn reconstruct(ty: &[u8], read: Read, columns: &[usize], shape: &[u8], out: 
 // Writes the frame of a value over the front of `out`, and answers its length; every byte behind it stays, and all of them where it is refused.
 pub fn write_frame(ty: &[u8], read: Read, columns: &[usize], value: &[u8], out: &mut [u8]) -> Reply
     requires { ⌜ TypeRead true (now ty) read (now columns) ⌝ }
-    ensures { λ r. ⌜ (numberOf r, lengthOf r, now (out .exit)) ≡ delivered (framed after (now (ty .entry)) (now (value .entry))) (now (out .entry)) ⌝ }
+    ensures { λ r. ⌜ WriteFrame (now (ty .entry)) (now (value .entry)) (now (out .entry)) (numberOf r) (lengthOf r) (now (out .exit)) ⌝ }
 {
     match read {
         Read::Refused(x) => Reply::Refused(x),
@@ -116,7 +115,7 @@ pub fn write_frame(ty: &[u8], read: Read, columns: &[usize], value: &[u8], out: 
 // Writes the value file of an accepted frame over the front of `out`, and answers its length; every byte behind it stays, and all of them where it is refused.
 pub fn read_frame(ty: &[u8], read: Read, columns: &[usize], frame: &[u8], out: &mut [u8]) -> Reply
     requires { ⌜ TypeRead true (now ty) read (now columns) ⌝ }
-    ensures { λ r. ⌜ (numberOf r, lengthOf r, now (out .exit)) ≡ delivered (unframed after (now (ty .entry)) (now (frame .entry))) (now (out .entry)) ⌝ }
+    ensures { λ r. ⌜ ReadFrame (now (ty .entry)) (now (frame .entry)) (now (out .entry)) (numberOf r) (lengthOf r) (now (out .exit)) ⌝ }
 {
     match read {
         Read::Refused(x) => Reply::Refused(x),
@@ -147,7 +146,7 @@ pub fn part_read(
     out: &mut [u8],
 ) -> Reply
     requires { ⌜ TypeRead true (now ty) read (now columns) ⌝ }
-    ensures { λ r. ⌜ (numberOf r, lengthOf r, now (out .exit)) ≡ delivered (part-read after (now (ty .entry)) (now (frame .entry)) (now (path .entry))) (now (out .entry)) ⌝ }
+    ensures { λ r. ⌜ PartRead (now (ty .entry)) (now (frame .entry)) (now (path .entry)) (now (out .entry)) (numberOf r) (lengthOf r) (now (out .exit)) ⌝ }
 {
     match read {
         Read::Refused(x) => Reply::Refused(x),
@@ -170,7 +169,7 @@ pub fn part_edit(
     value: &[u8],
 ) -> Reply
     requires { ⌜ TypeRead true (now ty) read (now columns) ⌝ }
-    ensures { λ r. ⌜ (numberOf r, lengthOf r, now (frame .exit)) ≡ delivered (edited after (now (ty .entry)) (now (frame .entry)) (now (path .entry)) (now (value .entry))) (now (frame .entry)) ⌝ }
+    ensures { λ r. ⌜ PartEdit (now (ty .entry)) (now (frame .entry)) (now (path .entry)) (now (value .entry)) (numberOf r) (lengthOf r) (now (frame .exit)) ⌝ }
     ensures { λ r. ⌜ Edited after (now (ty .entry)) (now (frame .entry)) (now (path .entry)) (now (value .entry)) (numberOf r) (lengthOf r) (now (frame .exit)) ⌝ }
 {
     match read {

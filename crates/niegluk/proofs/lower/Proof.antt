@@ -1,10 +1,9 @@
 -- `niegluk::lower` meets its contract: a walk of its MIR, by hand, since it owns a table of structs and lends it. The walk is `entries`' `Walk`, at its parameters and at the operation that it calls, which ensures what the entry does.
 -- Assumes nothing.
-use mathlib.Core.Path.{_≡_}
 use mathlib.Core.Bool.{true}
 use mathlib.Core.List.{[], _∷_}
 use contract.Running.{tablesOf}
-use Rattle.model.specs.Operations.{lowered, delivered}
+use Rattle.model.specs.Calls.{Lower}
 use Rattle.reply.specs.Numbers.{numberOf, lengthOf}
 use Rattle.entries.proofs.Params.{buffer}
 use Rattle.entries.proofs.Forms.{Form, replies}
@@ -16,7 +15,7 @@ use Rattle.niegluk.proofs.lower.Statement.{statement}
 use Rattle.niegluk.proofs.lower.Code as code
 
 abbrev form : Form
-form = replies (buffer ∷ []) true (λ s x y r. (numberOf r, lengthOf r, y .0) ≡ delivered (lowered s) (x .0))
+form = replies (buffer ∷ []) true (λ s x y r. Lower s (x .0) (numberOf r) (lengthOf r) (y .0))
 
 pub lower-spec : {M : Type 1} → statement M
 unfolding code.routine tablesOf

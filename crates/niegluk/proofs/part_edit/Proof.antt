@@ -1,12 +1,11 @@
 -- `niegluk::part_edit` meets its contract: a walk of its MIR, by hand, since it owns a table of structs and lends it. The walk is `entries`' `Walk`, at its parameters and at the operation that it calls, which ensures what the entry does.
 -- Assumes nothing.
-use mathlib.Core.Path.{_≡_}
 use mathlib.Core.Bool.{true}
 use mathlib.Core.List.{[], _∷_}
 use contract.Running.{tablesOf}
 use Rattle.model.specs.Edits.{Edited}
 use Rattle.model.specs.Frames.{after}
-use Rattle.model.specs.Operations.{edited, delivered}
+use Rattle.model.specs.Calls.{PartEdit}
 use Rattle.reply.specs.Numbers.{numberOf, lengthOf}
 use Rattle.reply.proofs.Reply as S
 use Rattle.reply.proofs.Reply.Laws as S′
@@ -20,7 +19,7 @@ use Rattle.niegluk.proofs.part_edit.Statement.{statement}
 use Rattle.niegluk.proofs.part_edit.Code as code
 
 abbrev form : Form
-form = plainly (buffer ∷ file ∷ file ∷ []) true (enum-outcome S.the-type S′.the-laws tt) (λ s x y r. ((numberOf r, lengthOf r, y .0) ≡ delivered (edited after s (x .0) (x .1 .0) (x .1 .1 .0)) (x .0)) ∷ Edited after s (x .0) (x .1 .0) (x .1 .1 .0) (numberOf r) (lengthOf r) (y .0) ∷ [])
+form = plainly (buffer ∷ file ∷ file ∷ []) true (enum-outcome S.the-type S′.the-laws tt) (λ s x y r. PartEdit s (x .0) (x .1 .0) (x .1 .1 .0) (numberOf r) (lengthOf r) (y .0) ∷ Edited after s (x .0) (x .1 .0) (x .1 .1 .0) (numberOf r) (lengthOf r) (y .0) ∷ [])
 
 pub part-edit-spec : {M : Type 1} → statement M
 unfolding code.routine tablesOf

@@ -1,11 +1,9 @@
 -- `niegluk::write_frame` meets its contract: a walk of its MIR, by hand, since it owns a table of structs and lends it. The walk is `entries`' `Walk`, at its parameters and at the operation that it calls, which ensures what the entry does.
 -- Assumes nothing.
-use mathlib.Core.Path.{_≡_}
 use mathlib.Core.Bool.{true}
 use mathlib.Core.List.{[], _∷_}
 use contract.Running.{tablesOf}
-use Rattle.model.specs.Frames.{after}
-use Rattle.model.specs.Operations.{framed, delivered}
+use Rattle.model.specs.Calls.{WriteFrame}
 use Rattle.reply.specs.Numbers.{numberOf, lengthOf}
 use Rattle.entries.proofs.Params.{file, buffer}
 use Rattle.entries.proofs.Forms.{Form, replies}
@@ -17,7 +15,7 @@ use Rattle.niegluk.proofs.write_frame.Statement.{statement}
 use Rattle.niegluk.proofs.write_frame.Code as code
 
 abbrev form : Form
-form = replies (file ∷ buffer ∷ []) true (λ s x y r. (numberOf r, lengthOf r, y .1 .0) ≡ delivered (framed after s (x .0)) (x .1 .0))
+form = replies (file ∷ buffer ∷ []) true (λ s x y r. WriteFrame s (x .0) (x .1 .0) (numberOf r) (lengthOf r) (y .1 .0))
 
 pub write-frame-spec : {M : Type 1} → statement M
 unfolding code.routine tablesOf

@@ -525,6 +525,7 @@ frame-edges =
     ∷ gives (unframed after u4-or-bool (hex 1 0x48)) (left-of ++ u4-is 9)
     ∷ gives (unframed after u4-or-bool (hex 1 0xC0)) (right-of ++ bool-is 1)
     ∷ gives (unframed after u4-and-list (hex 2 0x9180)) nine-and-one
+    ∷ gives (framed after variants (variant 0)) (hex 1 0x00)
     ∷ gives (framed after variants (variant 2 ++ u1-is 1 ++ bool-is 0)) (hex 1 0xE0)
     ∷ gives (unframed after variants (hex 1 0xA0)) (variant 1 ++ u1-is 1)
     -- an integer's high byte first, in value file and frame

@@ -1,10 +1,12 @@
 /* Calls the functions of the library on a small table of files, each with a buffer that is longer than the result, one of
  * exactly its length and one that is a byte short, and compares the number, the length and every byte of the buffer.
- * The answers are those that the papers give, or a few lines of theirs worked out by hand. */
+ * The answers are those that the papers give, or a few lines of theirs worked out by hand. Then the deepest inputs known
+ * run on the stacks that the header states (stack.c). */
 #include <stdio.h>
 #include <stdlib.h>
 #include <string.h>
 #include "niegluk.h"
+#include "stack.h"
 
 enum { MOST = 65536, SPARE = 16, FILL = 0xA5 };
 
@@ -374,13 +376,15 @@ static void parts(void)
     }
 }
 
-int main(void)
+/* --measure: tells how much stack the deepest inputs take. */
+int main(int words, char **word)
 {
     types();
     limits();
     values();
     frames();
     parts();
+    failures += stacks(words == 2 && strcmp(word[1], "--measure") == 0);
     if (failures != 0)
         return 1;
     printf("niegluk: all as expected\n");

@@ -1,42 +1,33 @@
 /* niegluk: files of types, values, shapes and frames, and paths into frames.
  *
- * Every function takes whole files as bytes, writes its result to the front of a buffer that the caller lends (an edit: to the
- * frame's own bytes), and answers a number: 0 where the operation is accepted, else the number of the first row that refuses it.
+ * Every function takes whole files as bytes (docs/FORMATS.md says what stands in
+ * them), writes its result to the front of a buffer that the caller lends (an edit:
+ * to the frame's own bytes), and answers a number: 0 where the operation is
+ * accepted, else the first of the numbers below, downward, that refuses it.
  *
- *     1   the type file's length is zero or no multiple of 4
- *     2   the type file has over 1,024 records
- *     3   a record of the type file is bad: its kind, its byte 1 or its n, or a Variant where a type belongs or the reverse
- *     4   a record of the type file is deeper than 32, the root being 1
- *     5   a record of the type file is missing, or some are left over
- *     6   Never stands anywhere in the type
- *     7   the type, a type in it or a payload type lowers to over 65,536 records
- *     8   the shape has over 65,536 records
- *     9   a byte of the shape is above 3, or it is not exactly one tree
- *    10   the shape does not read as a value of the type
- *    11   the frame's length is another than the type's
- *    12   a padding or tail bit of the frame is 1
- *    13   the path's length is odd
- *    14   the path leads to no part of the frame's value
- *    15   the value file's length is zero or no multiple of 36
- *    16   the value file is not one value of the type (for an edit, of the part's type)
- *    17   the result needs more bytes than the buffer has
+ * The length of the result goes to *length: 0 where the operation is refused. A
+ * buffer of exactly that length is enough. An accepted result leaves every byte of
+ * the buffer past its end as it was; a refusal leaves all of them.
  *
- * The length of the result goes to *length: 0 where the operation is refused. A buffer of exactly that length is enough.
- * An accepted result leaves every byte of the buffer past its end as it was; a refusal leaves all of them.
+ * A List bounded at b holds at most b - 1 elements: a value with b is refused, 16.
  *
  * The caller sees to it that
- * - each pointer points to as many bytes as the length after it says (a null pointer may stand only where that length
- *   is 0), and `length` to a size_t, and that no one writes them while the function runs;
- * - the memory behind no two pointers overlaps.
+ * - each pointer points to as many bytes as the length after it says (a null
+ *   pointer may stand only where that length is 0), and `length` to a size_t, and
+ *   that no one else writes them while the function runs;
+ * - what is written (`out`, the frame of an edit, `length`) overlaps nothing else
+ *   that is passed. What is only read may overlap;
+ * - the thread has the stack that the call takes (NIEGLUK_STACK_.. below).
  * Nothing else is asked: any bytes may stand in the files, of any length.
  *
- * The functions take no memory but the stack and keep nothing between calls: they are reentrant, and may be called from
- * any number of threads at once.
+ * The functions take no memory but the stack and keep nothing between calls: they
+ * are reentrant, and may be called from any number of threads at once.
  *
- * Stack: lend each of them 160 KiB. That is measured, not proved. 28 KiB are for the table of the type and its columns; the rest grows with
- * the type's depth and, except for frames, with the logarithm of the parts at each level. The most that was found on x86-64: 101 KiB for
- * reconstruct, 99 for lower and 96 for write_shape, with 31 tuples of 33 parts inside each other; 62 for write_frame and part_edit, with 31
- * lists inside each other; 57 for read_frame and part_read, with 15 enums of 60 variants.
+ * The library, libniegluk.a, is for x86-64: one ELF object, for any such processor,
+ * with the System V calling convention. It has no data and no bss, defines no global
+ * symbol but the seven functions, and is position independent, so that a shared
+ * object can have it too. It wants only `memset` from outside: a program without a C
+ * library brings its own. niegluk_says is not in it, but in niegluk_says.c.
  */
 #ifndef NIEGLUK_H
 #define NIEGLUK_H
@@ -48,36 +39,116 @@
 extern "C" {
 #endif
 
-/* Lowers a type: writes the lowered type's records, one byte each (0 a unit, 1 a sum, 2 a product), parent first.
+/* What a function answers: one of these, and nothing else. */
+enum niegluk_number {
+    /* the operation is accepted */
+    NIEGLUK_OK = 0,
+    /* the type file is empty, or its length is no multiple of 4 */
+    NIEGLUK_TYPE_LENGTH = 1,
+    /* the type file has over 1,024 records */
+    NIEGLUK_TYPE_TOO_LONG = 2,
+    /* a record of the type has a bad kind, byte 1 or n, or a Variant stands where a
+     * type belongs, or the reverse */
+    NIEGLUK_BAD_RECORD = 3,
+    /* a record of the type is deeper than 32, the root being 1 */
+    NIEGLUK_TOO_DEEP = 4,
+    /* a record of the type is missing, or some are left over */
+    NIEGLUK_NOT_ONE_TYPE = 5,
+    /* the type has a Never in it, so it does not lower */
+    NIEGLUK_NEVER_STANDS = 6,
+    /* the type, a type in it or a payload type lowers to over 65,536 records */
+    NIEGLUK_TOO_LARGE = 7,
+    /* the shape has over 65,536 records */
+    NIEGLUK_SHAPE_TOO_LONG = 8,
+    /* the shape has a byte above 3, or is not exactly one tree */
+    NIEGLUK_NOT_ONE_TREE = 9,
+    /* the shape does not read as a value of the type */
+    NIEGLUK_NOT_RECONSTRUCTED = 10,
+    /* the frame has another length than the type's frames */
+    NIEGLUK_FRAME_LENGTH = 11,
+    /* a padding or tail bit of the frame is 1 */
+    NIEGLUK_STRAY_BIT = 12,
+    /* the path's length is odd */
+    NIEGLUK_PATH_ODD = 13,
+    /* the path leads to no part of the frame's value */
+    NIEGLUK_NO_SUCH_PART = 14,
+    /* the value file is empty, or its length is no multiple of 36 */
+    NIEGLUK_VALUE_LENGTH = 15,
+    /* the value file is not one value of the type; for an edit, of the part's type */
+    NIEGLUK_NOT_ONE_VALUE = 16,
+    /* the result needs more bytes than the buffer has */
+    NIEGLUK_NO_ROOM = 17
+};
+
+/* What a number says, as a sentence in English; of a number that is not above, that
+ * it is none. It is defined in niegluk_says.c, beside this file: compile that too. */
+const char *niegluk_says(uint32_t number);
+
+/* The most bytes of stack, below the caller's own, that a call can take. They are
+ * computed from the machine code by tools/stack, and rounded up. What the thread
+ * itself takes, and what a signal's handler does, comes on top. A call touches its
+ * stack page by page, so a thread with too little ends at its guard page. */
+#define NIEGLUK_STACK_LOWER 99328
+#define NIEGLUK_STACK_WRITE_SHAPE 98304
+#define NIEGLUK_STACK_RECONSTRUCT 162816
+#define NIEGLUK_STACK_WRITE_FRAME 60416
+#define NIEGLUK_STACK_READ_FRAME 61440
+#define NIEGLUK_STACK_PART_READ 61440
+#define NIEGLUK_STACK_PART_EDIT 61440
+
+/* Lowers a type: writes the lowered type's records, one byte each (0 a unit, 1 a
+ * sum, 2 a product), parent first.
  * At most 65,536 bytes. Numbers 1 to 7 and 17. */
-uint32_t niegluk_lower(const uint8_t *ty, size_t ty_len, uint8_t *out, size_t out_len, size_t *length);
+uint32_t niegluk_lower(const uint8_t *ty, size_t ty_len,
+                       uint8_t *out, size_t out_len, size_t *length);
 
-/* Writes the shape of a value: its records, one byte each (0 a unit, 1 a left, 2 a right, 3 a pair), parent first.
+/* Writes the shape of a value: its records, one byte each (0 a unit, 1 a left, 2 a
+ * right, 3 a pair), parent first.
  * At most 65,536 bytes. Numbers 1 to 7, 15, 16 and 17. */
-uint32_t niegluk_write_shape(const uint8_t *ty, size_t ty_len, const uint8_t *value, size_t value_len, uint8_t *out, size_t out_len, size_t *length);
+uint32_t niegluk_write_shape(const uint8_t *ty, size_t ty_len,
+                             const uint8_t *value, size_t value_len,
+                             uint8_t *out, size_t out_len, size_t *length);
 
-/* Reads a shape as a value of a type, and writes its value file, 36 bytes a record. The type need not lower: a Never is refused only
- * where the shape reaches it. What lies under an empty tuple, an array of 0 or a variant without parts is passed over.
+/* Reads a shape as a value of a type, and writes its value file, 36 bytes a record.
+ * The type need not lower: a Never is refused only where the shape reaches it. What
+ * lies under an empty tuple, an array of 0 or a variant without parts is passed over.
  * At most 77,856,768 bytes. Numbers 1 to 5, 8, 9, 10 and 17. */
-uint32_t niegluk_reconstruct(const uint8_t *ty, size_t ty_len, const uint8_t *shape, size_t shape_len, uint8_t *out, size_t out_len, size_t *length);
+uint32_t niegluk_reconstruct(const uint8_t *ty, size_t ty_len,
+                             const uint8_t *shape, size_t shape_len,
+                             uint8_t *out, size_t out_len, size_t *length);
 
-/* Writes the frame of a value: its bits, the first the highest of byte 0, and zeros to the end of the last byte.
+/* Writes the frame of a value: its bits, the first the highest of byte 0, and zeros
+ * to the end of the last byte.
  * At most 4,096 bytes, none for a type of width 0. Numbers 1 to 7, 15, 16 and 17. */
-uint32_t niegluk_write_frame(const uint8_t *ty, size_t ty_len, const uint8_t *value, size_t value_len, uint8_t *out, size_t out_len, size_t *length);
+uint32_t niegluk_write_frame(const uint8_t *ty, size_t ty_len,
+                             const uint8_t *value, size_t value_len,
+                             uint8_t *out, size_t out_len, size_t *length);
 
-/* Reads a frame of a type, and writes its value file, 36 bytes a record. A frame is accepted if its length is the type's and no padding
- * or tail bit is 1. At most 77,856,768 bytes. Numbers 1 to 7, 11, 12 and 17. */
-uint32_t niegluk_read_frame(const uint8_t *ty, size_t ty_len, const uint8_t *frame, size_t frame_len, uint8_t *out, size_t out_len, size_t *length);
+/* Reads a frame of a type, and writes its value file, 36 bytes a record. A frame is
+ * accepted if its length is the type's and no padding or tail bit is 1.
+ * At most 77,856,768 bytes. Numbers 1 to 7, 11, 12 and 17. */
+uint32_t niegluk_read_frame(const uint8_t *ty, size_t ty_len,
+                            const uint8_t *frame, size_t frame_len,
+                            uint8_t *out, size_t out_len, size_t *length);
 
-/* Reads a part of a frame, and writes its value file, 36 bytes a record. A path is two-byte steps, high byte first, of any number. Tuple,
- * Array, List: index. Either: 0 or 1, the side taken. Option: 0, if some. Enum: index in the payload of the variant present. The empty
- * path is the whole. At most 77,856,768 bytes. Numbers 1 to 7, 11 to 14 and 17. */
-uint32_t niegluk_part_read(const uint8_t *ty, size_t ty_len, const uint8_t *frame, size_t frame_len, const uint8_t *path, size_t path_len, uint8_t *out, size_t out_len, size_t *length);
+/* Reads a part of a frame, and writes its value file, 36 bytes a record. A path is
+ * two-byte steps, high byte first, of any number. Tuple, Array, List: index.
+ * Either: 0 or 1, the side taken. Option: 0, if some. Enum: index in the payload of
+ * the variant present. The empty path is the whole.
+ * At most 77,856,768 bytes. Numbers 1 to 7, 11 to 14 and 17. */
+uint32_t niegluk_part_read(const uint8_t *ty, size_t ty_len,
+                           const uint8_t *frame, size_t frame_len,
+                           const uint8_t *path, size_t path_len,
+                           uint8_t *out, size_t out_len, size_t *length);
 
-/* Replaces a part of a frame by a value of the part's type, in the frame's own bytes: the part's bits, its inner padding included, are those
- * of the new value's frame, and no other bit changes. *length is frame_len where accepted. Refused, no bit of the frame changes.
- * Numbers 1 to 7 and 11 to 16. */
-uint32_t niegluk_part_edit(const uint8_t *ty, size_t ty_len, uint8_t *frame, size_t frame_len, const uint8_t *path, size_t path_len, const uint8_t *value, size_t value_len, size_t *length);
+/* Replaces a part of a frame by a value of the part's type, in the frame's own
+ * bytes: the part's bits, its inner padding included, are those of the new value's
+ * frame, and no other bit changes. *length is frame_len where accepted. Refused, no
+ * bit of the frame changes. Numbers 1 to 7 and 11 to 16. */
+uint32_t niegluk_part_edit(const uint8_t *ty, size_t ty_len,
+                           uint8_t *frame, size_t frame_len,
+                           const uint8_t *path, size_t path_len,
+                           const uint8_t *value, size_t value_len, size_t *length);
 
 #ifdef __cplusplus
 }

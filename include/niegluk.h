@@ -9,7 +9,8 @@
  * buffer of exactly that length is enough. An accepted result leaves every byte of
  * the buffer past its end as it was; a refusal leaves all of them.
  *
- * A List bounded at b holds at most b - 1 elements: a value with b is refused, 16.
+ * A List bounded at b holds at most b - 1 elements: a value with b elements is
+ * refused, with number 16.
  *
  * The caller sees to it that
  * - each pointer points to as many bytes as the length after it says (a null
@@ -85,9 +86,11 @@ enum niegluk_number {
 const char *niegluk_says(uint32_t number);
 
 /* The most bytes of stack, below the caller's own, that a call can take. They are
- * computed from the machine code by tools/stack, and rounded up. What the thread
- * itself takes, and what a signal's handler does, comes on top. A call touches its
- * stack page by page, so a thread with too little ends at its guard page. */
+ * computed from the machine code by tools/stack, and rounded up, with a memset that
+ * takes 8 bytes, as glibc's does (some hundred make no difference). What the thread
+ * itself takes, and what a signal's handler does, comes on top; and a larger memset:
+ * under ASan lend 8 KiB more. A call touches its stack page by page, so a thread
+ * with too little ends at its guard page. */
 #define NIEGLUK_STACK_LOWER 99328
 #define NIEGLUK_STACK_WRITE_SHAPE 98304
 #define NIEGLUK_STACK_RECONSTRUCT 162816

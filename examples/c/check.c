@@ -1,7 +1,8 @@
-/* Calls the functions of the library on a small table of files, each with a buffer that is longer than the result, one of
- * exactly its length and one that is a byte short, and compares the number, the length and every byte of the buffer.
- * The answers are those that the papers give, or a few lines of theirs worked out by hand. Then the deepest inputs known
- * run on the stacks that the header states (stack.c). */
+/* Calls the functions of the library on a small table of files, each with a buffer that is longer
+ * than the result, one of exactly its length and one that is a byte short, and compares the number,
+ * the length and every byte of the buffer. The answers are those that the papers give, or a few
+ * lines of theirs worked out by hand. Then the deepest inputs known run on the stacks that the
+ * header states (stack.c). */
 #include <stdio.h>
 #include <stdlib.h>
 #include <string.h>
@@ -32,7 +33,10 @@ static int untouched(size_t from)
 }
 
 /* A file in the table's spelling. */
-struct file { uint8_t bytes[8192]; size_t length; };
+struct file {
+    uint8_t bytes[8192];
+    size_t length;
+};
 
 /* Bytes in hexadecimal digits, spaces skipped. */
 static struct file hex(const char *text)
@@ -54,7 +58,8 @@ static struct file digits(const char *text)
     return file;
 }
 
-/* Records of a value: eight digits for the first four bytes, and after a colon two for the integer's last byte. */
+/* Records of a value: eight digits for the first four bytes, and after a colon two for the
+ * integer's last byte. */
 static struct file value(const char *text)
 {
     struct file file = { { 0 }, 0 };
@@ -79,7 +84,8 @@ static struct file value(const char *text)
 }
 
 /* One call with a buffer of out_len bytes. */
-static uint32_t call(enum operation op, const struct file *ty, const struct file *other, size_t out_len, size_t *length)
+static uint32_t call(enum operation op, const struct file *ty, const struct file *other,
+                     size_t out_len, size_t *length)
 {
     uint8_t *out = out_len == 0 ? NULL : buffer;
     memset(buffer, FILL, sizeof buffer);
@@ -88,18 +94,23 @@ static uint32_t call(enum operation op, const struct file *ty, const struct file
     case LOWER:
         return niegluk_lower(ty->bytes, ty->length, out, out_len, length);
     case SHAPE:
-        return niegluk_write_shape(ty->bytes, ty->length, other->bytes, other->length, out, out_len, length);
+        return niegluk_write_shape(ty->bytes, ty->length, other->bytes, other->length, out, out_len,
+                                   length);
     case RECONSTRUCT:
-        return niegluk_reconstruct(ty->bytes, ty->length, other->bytes, other->length, out, out_len, length);
+        return niegluk_reconstruct(ty->bytes, ty->length, other->bytes, other->length, out, out_len,
+                                   length);
     case FRAME:
-        return niegluk_write_frame(ty->bytes, ty->length, other->bytes, other->length, out, out_len, length);
+        return niegluk_write_frame(ty->bytes, ty->length, other->bytes, other->length, out, out_len,
+                                   length);
     case UNFRAME:
-        return niegluk_read_frame(ty->bytes, ty->length, other->bytes, other->length, out, out_len, length);
+        return niegluk_read_frame(ty->bytes, ty->length, other->bytes, other->length, out, out_len,
+                                  length);
     }
     abort();
 }
 
-static void refused(const char *name, enum operation op, const struct file *ty, const struct file *other, uint32_t number)
+static void refused(const char *name, enum operation op, const struct file *ty,
+                    const struct file *other, uint32_t number)
 {
     size_t length;
     expect(call(op, ty, other, MOST, &length) == number, name, "another number");
@@ -108,7 +119,8 @@ static void refused(const char *name, enum operation op, const struct file *ty, 
 }
 
 /* result: null where only its length is known. */
-static void gives(const char *name, enum operation op, const struct file *ty, const struct file *other, const uint8_t *result, size_t bytes)
+static void gives(const char *name, enum operation op, const struct file *ty,
+                  const struct file *other, const uint8_t *result, size_t bytes)
 {
     const size_t rooms[] = { MOST, bytes, bytes + 1 };
     size_t length;
@@ -120,28 +132,36 @@ static void gives(const char *name, enum operation op, const struct file *ty, co
     }
     if (bytes == 0)
         return;
-    expect(call(op, ty, other, bytes - 1, &length) == 17, name, "no 17 where the buffer is a byte short");
+    expect(call(op, ty, other, bytes - 1, &length) == 17, name,
+           "no 17 where the buffer is a byte short");
     expect(length == 0 && untouched(0), name, "17 left a length or changed the buffer");
     expect(call(op, ty, other, 0, &length) == 17 && length == 0, name, "no 17 without a buffer");
 }
 
 static void types(void)
 {
-    static const struct { const char *name, *type, *lowered; } good[] = {
+    static const struct {
+        const char *name, *type, *lowered;
+    } good[] = {
         { "()", "05000000", "0" },
         { "boolean", "01000000", "100" },
         { "u2", "02000002", "2100100" },
         { "three booleans", "05000003 01000000 01000000 01000000", "21002100100" },
         { "list of u1, bound 4", "07000004 02000001", "210210010010100" },
-        { "the job's type", "05000002 02000004 07000004 02000001", "2221001002100100210210010010100" },
+        { "the job's type", "05000002 02000004 07000004 02000001",
+          "2221001002100100210210010010100" },
         { "option", "04000000 01000000", "10100" },
         { "either u4 or boolean", "03000000 02000004 01000000", "1221001002100100100" },
         { "one variant", "08000001 09000001 02000001", "100" },
-        { "three variants", "08000003 09000000 09000001 02000001 09000002 02000001 01000000", "1011002100100" },
+        { "three variants", "08000003 09000000 09000001 02000001 09000002 02000001 01000000",
+          "1011002100100" },
         { "array of 0", "06000000 01000000", "0" },
         { "array of 3", "06000003 05000000", "20200" },
     };
-    static const struct { const char *name, *type; uint32_t number; } bad[] = {
+    static const struct {
+        const char *name, *type;
+        uint32_t number;
+    } bad[] = {
         { "no bytes", "", 1 },
         { "three bytes", "050000", 1 },
         { "kind 10", "0a000000", 3 },
@@ -193,34 +213,49 @@ static void limits(void)
     ty = options(0, 1024);
     refused("1,025 records", LOWER, &ty, NULL, 2);
     length = 1;
-    expect(niegluk_lower(NULL, 0, buffer, MOST, &length) == 1 && length == 0, "no type", "no 1 for a null pointer with length 0");
+    expect(niegluk_lower(NULL, 0, buffer, MOST, &length) == 1 && length == 0, "no type",
+           "no 1 for a null pointer with length 0");
 }
 
 /* Each value is written to its shape and its frame, and both are read back to the value's file. */
 static void values(void)
 {
-    static const struct { const char *name, *type, *value, *shape, *frame; } good[] = {
+    static const struct {
+        const char *name, *type, *value, *shape, *frame;
+    } good[] = {
         { "no elements", "07000004 02000001", "07000000", "31010", "00" },
         { "[1]", "07000004 02000001", "07000001 02000001:01", "310220", "18" },
         { "[1, 0]", "07000004 02000001", "07000002 02000001:01 02000001", "323201010", "c0" },
-        { "[1, 0, 1]", "07000004 02000001", "07000003 02000001:01 02000001 02000001:01", "3232010220", "d8" },
-        { "four hits, bound 8", "07000008 02000001", "07000004 02000001:01 02000001:01 02000001:01 02000001:01", "323320203202031010", "f800" },
-        { "variant 0", "08000003 09000000 09000001 02000001 09000002 02000001 01000000", "08000000", "10", "00" },
-        { "variant 1", "08000003 09000000 09000001 02000001 09000002 02000001 01000000", "08000001 02000001:01", "2120", "a0" },
-        { "variant 2", "08000003 09000000 09000001 02000001 09000002 02000001 01000000", "08000002 02000001:01 01000000", "2232010", "e0" },
+        { "[1, 0, 1]", "07000004 02000001", "07000003 02000001:01 02000001 02000001:01",
+          "3232010220", "d8" },
+        { "four hits, bound 8", "07000008 02000001",
+          "07000004 02000001:01 02000001:01 02000001:01 02000001:01", "323320203202031010",
+          "f800" },
+        { "variant 0", "08000003 09000000 09000001 02000001 09000002 02000001 01000000", "08000000",
+          "10", "00" },
+        { "variant 1", "08000003 09000000 09000001 02000001 09000002 02000001 01000000",
+          "08000001 02000001:01", "2120", "a0" },
+        { "variant 2", "08000003 09000000 09000001 02000001 09000002 02000001 01000000",
+          "08000002 02000001:01 01000000", "2232010", "e0" },
         { "one variant", "08000001 09000001 02000001", "08000000 02000001:01", "20", "80" },
-        { "the sample", "05000002 02000004 07000004 02000001", "05000002 02000004:09 07000001 02000001:01", "333201031020310220", "9180" },
+        { "the sample", "05000002 02000004 07000004 02000001",
+          "05000002 02000004:09 07000001 02000001:01", "333201031020310220", "9180" },
         { "right true", "03000000 02000004 01000000", "03010000 01010000", "220", "c0" },
         { "left 9", "03000000 02000004 01000000", "03000000 02000004:09", "133201031020", "48" },
         { "some none", "04000000 04000000 01000000", "04010000 04000000", "210", "80" },
         { "()", "05000000", "05000000", "0", "" },
         { "tuple of one", "05000001 01000000", "05000001 01010000", "20", "80" },
-        { "array of 3 booleans", "06000003 01000000", "06000003 01000000 01010000 01010000", "31032020", "60" },
+        { "array of 3 booleans", "06000003 01000000", "06000003 01000000 01010000 01010000",
+          "31032020", "60" },
         { "array of 0", "06000000 01000000", "06000000", "0", "" },
     };
-    static const struct { const char *name, *type, *value; uint32_t number; } bad[] = {
+    static const struct {
+        const char *name, *type, *value;
+        uint32_t number;
+    } bad[] = {
         { "no value", "01000000", "", 15 },
-        { "four elements, bound 4", "07000004 02000001", "07000004 02000001 02000001 02000001 02000001", 16 },
+        { "four elements, bound 4", "07000004 02000001",
+          "07000004 02000001 02000001 02000001 02000001", 16 },
         { "a u1 that holds 2", "02000001", "02000001:02", 16 },
         { "another width", "02000001", "02000002", 16 },
         { "a choice of 2", "01000000", "01020000", 16 },
@@ -230,14 +265,20 @@ static void values(void)
         { "an array of another size", "06000002 01000000", "06000001 01000000", 16 },
         { "never", "04000000 00000000", "04000000", 6 },
     };
-    static const struct { const char *name, *type, *shape, *value; } odd[] = {
+    static const struct {
+        const char *name, *type, *shape, *value;
+    } odd[] = {
         { "a pair under ()", "05000000", "300", "05000000" },
         { "option never", "04000000 00000000", "10", "04000000" },
         { "a pair under an array of 0", "06000000 00000000", "300", "06000000" },
-        { "a pair under a variant without parts", "08000002 09000000 09000000", "2300", "08000001" },
+        { "a pair under a variant without parts", "08000002 09000000 09000000", "2300",
+          "08000001" },
         { "an array too large to lower", "04000000 06008001 05000000", "10", "04000000" },
     };
-    static const struct { const char *name, *type, *shape; uint32_t number; } none[] = {
+    static const struct {
+        const char *name, *type, *shape;
+        uint32_t number;
+    } none[] = {
         { "no records", "01000000", "", 9 },
         { "a byte above 3", "01000000", "4", 9 },
         { "a tree missing", "01000000", "1", 9 },
@@ -248,7 +289,8 @@ static void values(void)
         { "a unit for a bit", "01000000", "0", 10 },
     };
     for (size_t i = 0; i < sizeof good / sizeof *good; i++) {
-        struct file ty = hex(good[i].type), val = value(good[i].value), shape = digits(good[i].shape);
+        struct file ty = hex(good[i].type), val = value(good[i].value),
+                    shape = digits(good[i].shape);
         gives(good[i].name, SHAPE, &ty, &val, shape.bytes, shape.length);
         gives(good[i].name, RECONSTRUCT, &ty, &shape, val.bytes, val.length);
         struct file frame = hex(good[i].frame);
@@ -272,13 +314,21 @@ static void values(void)
     static uint8_t long_shape[MOST + 1];
     size_t length;
     memset(buffer, FILL, sizeof buffer);
-    expect(niegluk_reconstruct(ty.bytes, ty.length, long_shape, MOST + 1, buffer, MOST, &length) == 8 && length == 0 && untouched(0), "65,537 records", "not 8");
-    expect(niegluk_reconstruct(ty.bytes, ty.length, long_shape, MOST, buffer, MOST, &length) == 9 && length == 0 && untouched(0), "65,536 units", "not 9");
+    expect(niegluk_reconstruct(ty.bytes, ty.length, long_shape, MOST + 1, buffer, MOST, &length) ==
+                   8 &&
+               length == 0 && untouched(0),
+           "65,537 records", "not 8");
+    expect(niegluk_reconstruct(ty.bytes, ty.length, long_shape, MOST, buffer, MOST, &length) == 9 &&
+               length == 0 && untouched(0),
+           "65,536 units", "not 9");
 }
 
 static void frames(void)
 {
-    static const struct { const char *name, *type, *frame; uint32_t number; } bad[] = {
+    static const struct {
+        const char *name, *type, *frame;
+        uint32_t number;
+    } bad[] = {
         { "no frame", "07000004 02000001", "", 11 },
         { "a byte too many", "07000004 02000001", "0000", 11 },
         { "a byte for ()", "05000000", "00", 11 },
@@ -293,21 +343,27 @@ static void frames(void)
     }
 }
 
-/* An edit of a copy of the frame: the number, the length and every byte of the copy, and of what lies behind it. */
-static void edits(const char *name, const struct file *ty, const struct file *frame, const struct file *path, const struct file *val, uint32_t number, const struct file *left)
+/* An edit of a copy of the frame: the number, the length and every byte of the copy, and of what
+ * lies behind it. */
+static void edits(const char *name, const struct file *ty, const struct file *frame,
+                  const struct file *path, const struct file *val, uint32_t number,
+                  const struct file *left)
 {
     size_t length = 12345;
     memset(buffer, FILL, sizeof buffer);
     memcpy(buffer, frame->bytes, frame->length);
     uint8_t *lent = frame->length == 0 ? NULL : buffer;
-    expect(niegluk_part_edit(ty->bytes, ty->length, lent, frame->length, path->bytes, path->length, val->bytes, val->length, &length) == number, name, "another number for the edit");
+    expect(niegluk_part_edit(ty->bytes, ty->length, lent, frame->length, path->bytes, path->length,
+                             val->bytes, val->length, &length) == number,
+           name, "another number for the edit");
     expect(length == (number == 0 ? frame->length : 0), name, "another length for the edit");
     expect(memcmp(buffer, left->bytes, frame->length) == 0, name, "another frame is left");
     expect(untouched(frame->length), name, "a byte behind the frame changed");
 }
 
 /* The part is read with buffers of several lengths. */
-static void reads(const char *name, const struct file *ty, const struct file *frame, const struct file *path, uint32_t number, const struct file *val)
+static void reads(const char *name, const struct file *ty, const struct file *frame,
+                  const struct file *path, uint32_t number, const struct file *val)
 {
     const size_t rooms[] = { MOST, val->length, val->length - 1 };
     for (size_t k = 0; k < (number == 0 ? 3 : 1); k++) {
@@ -315,32 +371,47 @@ static void reads(const char *name, const struct file *ty, const struct file *fr
         uint32_t expected = k == 2 ? 17 : number;
         size_t bytes = expected == 0 ? val->length : 0;
         memset(buffer, FILL, sizeof buffer);
-        expect(niegluk_part_read(ty->bytes, ty->length, frame->bytes, frame->length, path->bytes, path->length, buffer, rooms[k], &length) == expected, name, "another number for the part");
+        expect(niegluk_part_read(ty->bytes, ty->length, frame->bytes, frame->length, path->bytes,
+                                 path->length, buffer, rooms[k], &length) == expected,
+               name, "another number for the part");
         expect(length == bytes, name, "another length for the part");
-        expect(memcmp(buffer, val->bytes, bytes) == 0 && untouched(bytes), name, "another part, or a byte past its end changed");
+        expect(memcmp(buffer, val->bytes, bytes) == 0 && untouched(bytes), name,
+               "another part, or a byte past its end changed");
     }
 }
 
 static void parts(void)
 {
     static const char job[] = "05000002 02000004 07000004 02000001", hits[] = "07000008 02000001";
-    static const char variants[] = "08000003 09000000 09000001 02000001 09000002 02000001 01000000", either[] = "03000000 02000004 01000000";
+    static const char variants[] = "08000003 09000000 09000001 02000001 09000002 02000001 01000000",
+                      either[] = "03000000 02000004 01000000";
     /* the part that stands there, a new value for it, and the frame afterwards */
-    static const struct { const char *name, *type, *frame, *path, *part, *value, *left; } good[] = {
+    static const struct {
+        const char *name, *type, *frame, *path, *part, *value, *left;
+    } good[] = {
         { "the u4", job, "9180", "0000", "02000004:09", "02000004:06", "6180" },
-        { "the list", job, "9180", "0001", "07000001 02000001:01", "07000003 02000001:01 02000001 02000001:01", "9d80" },
+        { "the list", job, "9180", "0001", "07000001 02000001:01",
+          "07000003 02000001:01 02000001 02000001:01", "9d80" },
         { "an element", job, "9180", "0001 0000", "02000001:01", "02000001", "9100" },
-        { "the whole", job, "9180", "", "05000002 02000004:09 07000001 02000001:01", "05000002 02000004:06 07000000", "6000" },
+        { "the whole", job, "9180", "", "05000002 02000004:09 07000001 02000001:01",
+          "05000002 02000004:06 07000000", "6000" },
         { "the fourth of four hits", hits, "f800", "0003", "02000001:01", "02000001", "f000" },
-        { "the sixth of six hits, in the second block", hits, "ff00", "0005", "02000001:01", "02000001", "fe00" },
+        { "the sixth of six hits, in the second block", hits, "ff00", "0005", "02000001:01",
+          "02000001", "fe00" },
         { "the right side", either, "c0", "0001", "01010000", "01000000", "80" },
         { "the left side", either, "48", "0000", "02000004:09", "02000004:0f", "78" },
         { "a payload", variants, "e0", "0001", "01000000", "01010000", "f0" },
-        { "what is in a some", "04000000 02000002", "e0", "0000", "02000002:03", "02000002:01", "a0" },
-        { "a part of width 0", "05000002 05000000 01000000", "80", "0000", "05000000", "05000000", "80" },
-        { "the last of an array", "06000003 02000002", "e4", "0002", "02000002:01", "02000002:02", "e8" },
+        { "what is in a some", "04000000 02000002", "e0", "0000", "02000002:03", "02000002:01",
+          "a0" },
+        { "a part of width 0", "05000002 05000000 01000000", "80", "0000", "05000000", "05000000",
+          "80" },
+        { "the last of an array", "06000003 02000002", "e4", "0002", "02000002:01", "02000002:02",
+          "e8" },
     };
-    static const struct { const char *name, *type, *frame, *path, *value; uint32_t read, edit; } bad[] = {
+    static const struct {
+        const char *name, *type, *frame, *path, *value;
+        uint32_t read, edit;
+    } bad[] = {
         { "an element that is not there", job, "9180", "0001 0001", "02000001", 14, 14 },
         { "a third part of two", job, "9180", "0002", "02000004", 14, 14 },
         { "under a u4", job, "9180", "0000 0000", "02000001", 14, 14 },
@@ -353,25 +424,33 @@ static void parts(void)
         { "a tail bit", job, "9181", "0000", "02000004", 12, 12 },
         { "never", "00000000", "", "0000", "02000004", 6, 6 },
     };
-    static const struct { const char *name, *type, *frame, *path, *value; uint32_t number; } none[] = {
+    static const struct {
+        const char *name, *type, *frame, *path, *value;
+        uint32_t number;
+    } none[] = {
         { "no value", job, "9180", "0000", "", 15 },
         { "a value of another type", job, "9180", "0000", "02000001:01", 16 },
-        { "a value of the whole's type", job, "9180", "0000", "05000002 02000004:09 07000001 02000001:01", 16 },
+        { "a value of the whole's type", job, "9180", "0000",
+          "05000002 02000004:09 07000001 02000001:01", 16 },
         { "no such part before no value", job, "9180", "0002", "", 14 },
     };
     for (size_t i = 0; i < sizeof good / sizeof *good; i++) {
-        struct file ty = hex(good[i].type), frame = hex(good[i].frame), path = hex(good[i].path), part = value(good[i].part), val = value(good[i].value), left = hex(good[i].left);
+        struct file ty = hex(good[i].type), frame = hex(good[i].frame), path = hex(good[i].path),
+                    part = value(good[i].part), val = value(good[i].value),
+                    left = hex(good[i].left);
         reads(good[i].name, &ty, &frame, &path, 0, &part);
         edits(good[i].name, &ty, &frame, &path, &val, 0, &left);
         edits(good[i].name, &ty, &left, &path, &part, 0, &frame);
     }
     for (size_t i = 0; i < sizeof bad / sizeof *bad; i++) {
-        struct file ty = hex(bad[i].type), frame = hex(bad[i].frame), path = hex(bad[i].path), val = value(bad[i].value);
+        struct file ty = hex(bad[i].type), frame = hex(bad[i].frame), path = hex(bad[i].path),
+                    val = value(bad[i].value);
         reads(bad[i].name, &ty, &frame, &path, bad[i].read, &val);
         edits(bad[i].name, &ty, &frame, &path, &val, bad[i].edit, &frame);
     }
     for (size_t i = 0; i < sizeof none / sizeof *none; i++) {
-        struct file ty = hex(none[i].type), frame = hex(none[i].frame), path = hex(none[i].path), val = value(none[i].value);
+        struct file ty = hex(none[i].type), frame = hex(none[i].frame), path = hex(none[i].path),
+                    val = value(none[i].value);
         edits(none[i].name, &ty, &frame, &path, &val, none[i].number, &frame);
     }
 }

@@ -1,5 +1,6 @@
-/* lower FILE: prints the records of the lowered type of a type file as digits, or the number that refuses it and what that says.
- * Exit status 0; 1 where the type is refused; 2 where the file cannot be read or the answer cannot be written. */
+/* lower FILE: prints the records of the lowered type of a type file as digits, or the number that
+ * refuses it and what that says. Exit status 0; 1 where the type is refused; 2 where the file
+ * cannot be read or the answer cannot be written. */
 #include <stdio.h>
 #include <stdlib.h>
 #include "niegluk.h"
@@ -8,7 +9,8 @@ enum { MOST_RECORDS = 65536 };
 
 static uint8_t lowered[MOST_RECORDS];
 
-/* The rest of the file, of any length, or null where there is no memory for it. The caller looks at ferror. */
+/* The rest of the file, of any length, or null where there is no memory for it. The caller looks at
+ * ferror. */
 static uint8_t *read_whole(FILE *file, size_t *length)
 {
     uint8_t *bytes = NULL;

@@ -1,12 +1,16 @@
-/* Runs inputs that nest deep, each in a thread that has exactly the stack that niegluk.h states for the function.
+/* Runs inputs that nest deep, each in a thread that has the stack that niegluk.h states for the
+ * function.
  *
- * A thread's stack is memory of our own, with inaccessible pages right below it. How much of it the thread itself
- * and the caller take (thread-local data, the thread's start, the caller's frame and the arguments that it pushes)
- * is found by calling a probe of the same type in the function's place, from the same code: it tells where the
- * caller's stack pointer stands at the call. The stack is then made so long that from there down to the
- * inaccessible pages there are as many bytes as NIEGLUK_STACK_.. says, and fewer than 64 more, since a thread's own
- * part is aligned. Each input runs in a process of its own, so that one that needs more is told by name. */
+ * A thread's stack is memory of our own, with inaccessible pages right below it. How much of it the
+ * thread itself and the caller take (thread-local data, the thread's start, the caller's frame and
+ * the arguments that it pushes) is found by calling a probe of the same type in the function's
+ * place, from the same code: it tells where the caller's stack pointer stands at the call. The
+ * stack is then made so long that from there down to the inaccessible pages there are as many bytes
+ * as NIEGLUK_STACK_.. says, and fewer than 64 more, since a thread's own part is aligned; that none
+ * of these was used is looked at afterwards. Each input runs in a process of its own, so that one
+ * that needs more is told by name. */
 #define _DEFAULT_SOURCE
+#include <errno.h>
 #include <pthread.h>
 #include <stdio.h>
 #include <stdlib.h>
@@ -17,7 +21,8 @@
 #include "niegluk.h"
 #include "stack.h"
 
-/* The memory for stacks: inaccessible pages, then as much as the largest stack and a thread's own part may need. */
+/* The memory for stacks: inaccessible pages, then as much as the largest stack and a thread's own
+ * part may need. */
 enum { GUARD = 65536, STACKS = 1 << 20, THREAD = 65536, ALIGNED = 64, UNTOUCHED = 0x5A };
 
 /* The bytes of a record of a value file, of which the table spells the first four. */
@@ -25,7 +30,8 @@ enum { RECORD = 36, HEAD = 4 };
 
 /* The functions, by their parameters. */
 typedef uint32_t lowering(const uint8_t *, size_t, uint8_t *, size_t, size_t *);
-typedef uint32_t turning(const uint8_t *, size_t, const uint8_t *, size_t, uint8_t *, size_t, size_t *);
+typedef uint32_t turning(const uint8_t *, size_t, const uint8_t *, size_t, uint8_t *, size_t,
+                         size_t *);
 typedef uint32_t reading(const uint8_t *, size_t, const uint8_t *, size_t, const uint8_t *, size_t,
                          uint8_t *, size_t, size_t *);
 typedef uint32_t editing(const uint8_t *, size_t, uint8_t *, size_t, const uint8_t *, size_t,
@@ -69,10 +75,12 @@ struct call {
 /* Where stacks begin, and where a probe found the caller's stack pointer. */
 static uint8_t *memory, *top;
 
-/* The caller's stack pointer at the call: above the return address, and the frame pointer that is saved below it. */
+/* The caller's stack pointer at the call: above the return address, and the frame pointer that is
+ * saved below it. */
 #define CALLER ((uint8_t *)__builtin_frame_address(0) + 2 * sizeof(void *))
 
-static uint32_t probe_lower(const uint8_t *ty, size_t ty_len, uint8_t *out, size_t out_len, size_t *length)
+static uint32_t probe_lower(const uint8_t *ty, size_t ty_len, uint8_t *out, size_t out_len,
+                            size_t *length)
 {
     (void)ty, (void)ty_len, (void)out, (void)out_len, (void)length;
     top = CALLER;
@@ -88,7 +96,8 @@ static uint32_t probe_turn(const uint8_t *ty, size_t ty_len, const uint8_t *in, 
 }
 
 static uint32_t probe_read(const uint8_t *ty, size_t ty_len, const uint8_t *frame, size_t frame_len,
-                           const uint8_t *path, size_t path_len, uint8_t *out, size_t out_len, size_t *length)
+                           const uint8_t *path, size_t path_len, uint8_t *out, size_t out_len,
+                           size_t *length)
 {
     (void)ty, (void)ty_len, (void)frame, (void)frame_len, (void)path, (void)path_len;
     (void)out, (void)out_len, (void)length;
@@ -97,8 +106,8 @@ static uint32_t probe_read(const uint8_t *ty, size_t ty_len, const uint8_t *fram
 }
 
 static uint32_t probe_edit(const uint8_t *ty, size_t ty_len, uint8_t *frame, size_t frame_len,
-                           const uint8_t *path, size_t path_len, const uint8_t *value, size_t value_len,
-                           size_t *length)
+                           const uint8_t *path, size_t path_len, const uint8_t *value,
+                           size_t value_len, size_t *length)
 {
     (void)ty, (void)ty_len, (void)frame, (void)frame_len, (void)path, (void)path_len;
     (void)value, (void)value_len, (void)length;
@@ -119,11 +128,11 @@ static void *ask(void *given)
     else if (e->turn != NULL)
         c->number = e->turn(ty->bytes, ty->length, other->bytes, other->length, out, room, length);
     else if (e->read != NULL)
-        c->number = e->read(ty->bytes, ty->length, other->bytes, other->length, path->bytes, path->length,
-                            out, room, length);
+        c->number = e->read(ty->bytes, ty->length, other->bytes, other->length, path->bytes,
+                            path->length, out, room, length);
     else
-        c->number = e->edit(ty->bytes, ty->length, c->other.bytes, other->length, path->bytes, path->length,
-                            value->bytes, value->length, length);
+        c->number = e->edit(ty->bytes, ty->length, c->other.bytes, other->length, path->bytes,
+                            path->length, value->bytes, value->length, length);
     return NULL;
 }
 
@@ -140,11 +149,11 @@ static void ask_within(struct call *c, size_t size)
 {
     pthread_t thread;
     pthread_attr_t with;
-    must(pthread_attr_init(&with) == 0, "attributes");
-    must(pthread_attr_setstack(&with, memory, size) == 0, "a thread's stack");
-    must(pthread_create(&thread, &with, ask, c) == 0, "a thread");
-    must(pthread_join(thread, NULL) == 0, "a thread's end");
-    must(pthread_attr_destroy(&with) == 0, "attributes");
+    must((errno = pthread_attr_init(&with)) == 0, "attributes");
+    must((errno = pthread_attr_setstack(&with, memory, size)) == 0, "a thread's stack");
+    must((errno = pthread_create(&thread, &with, ask, c)) == 0, "a thread");
+    must((errno = pthread_join(thread, NULL)) == 0, "a thread's end");
+    must((errno = pthread_attr_destroy(&with)) == 0, "attributes");
 }
 
 /* The bytes below the caller in a stack of this size. */
@@ -176,8 +185,8 @@ static size_t ask_on(struct call *c, size_t stack)
     return left - first;
 }
 
-/* Appends the bytes that the text spells, two hexadecimal digits each: `(..)` is a group, and `*n` behind a group or
- * a word writes it n times. Answers where the text or the group ends. */
+/* Appends the bytes that the text spells, two hexadecimal digits each: `(..)` is a group, and `*n`
+ * behind a group or a word writes it n times. Answers where the text or the group ends. */
 static const char *spell(struct file *file, const char *text)
 {
     size_t start = file->length;
@@ -191,7 +200,9 @@ static const char *spell(struct file *file, const char *text)
             start = file->length;
             text = spell(file, text + 1) + 1;
         } else if (*text == '*') {
-            size_t one = file->length - start, times = strtoul(text + 1, (char **)&text, 10);
+            char *end;
+            size_t one = file->length - start, times = strtoul(text + 1, &end, 10);
+            text = end;
             must(file->length + one * times <= sizeof file->bytes, "a file too long");
             for (size_t k = 1; k < times; k++)
                 memcpy(file->bytes + start + k * one, file->bytes + start, one);
@@ -226,8 +237,9 @@ static struct file values(const char *text)
     return made;
 }
 
-/* Shapes: the integer 0 of 256 bits; an empty list bounded by 32,768; one with one element, which comes next; a
- * tuple of 33 up to its last part, the others being units, in which 2, 4, 8 and 16 units stand for halves. */
+/* Shapes: the integer 0 of 256 bits; an empty list bounded by 32,768; one with one element, which
+ * comes next; a tuple of 33 up to its last part, the others being units, in which 2, 4, 8 and 16
+ * units stand for halves. */
 #define ZERO "(03 (03 (03 (03 (03 (03 (03 (03 (01 00)*2)*2)*2)*2)*2)*2)*2)*2)"
 #define EMPTY "(03 01 00)*14 01 00"
 #define LAST "(03 01 00)*14 02"
@@ -237,16 +249,18 @@ static struct file values(const char *text)
 #define SIXTEEN "(03 " EIGHT "*2)"
 #define SPINE "03 00 03 " SIXTEEN " 03 " EIGHT " 03 " FOUR " 03 " TWO " 03 00"
 
-/* Tuples of 33 and one of 65, each the last part of the one before, with room for one more record below; 15 Enums
- * of 65, each in the last Variant of the one before, and a List there, a frame of it and its value; 33 Options. */
+/* Tuples of 33 and one of 65, each the last part of the one before, with room for one more record
+ * below; 15 Enums of 65, each in the last Variant of the one before, and a List there, a frame of
+ * it and its value; 33 Options. */
 #define TUPLES "(05000021 05000000*32)*29 05000041 05000000*64 "
 #define ENUMS "(08000041 09000000*64 09000001)*15 07004000 05000000"
 #define CHOICES "ffffffffffffffffffffffffff8002"
 #define CHOSEN "08000040*15 07000001 05000000"
 #define OPTIONS "04000000*33 01000000"
 
-/* Number and length of the answer; type; shape, value or frame; for an edit the new value. The path is empty. First
- * the inputs known that take the most of each function, then a type that is refused at its deepest record. */
+/* Number and length of the answer; type; shape, value or frame; for an edit the new value. The path
+ * is empty. First the inputs known that take the most of each function, then a type that is refused
+ * at its deepest record. */
 static const struct question {
     const char *name;
     enum operation op;
@@ -255,20 +269,20 @@ static const struct question {
     const char *type, *other, *value;
 } questions[] = {
     { "tuples of 33 over an array", LOWER, 0, 34753, TUPLES "06004001 05000000", "", "" },
-    { "tuples of 33 over a list", WRITE_SHAPE, 0, 2025,
-      TUPLES "07004000 05000000", TUPLES "07000001 05000000", "" },
-    { "arrays and lists in turn", RECONSTRUCT, 10, 0,
-      "(0600ffff 07008000)*15 0600ffff 02000100",
+    { "tuples of 33 over a list", WRITE_SHAPE, 0, 2025, TUPLES "07004000 05000000",
+      TUPLES "07000001 05000000", "" },
+    { "arrays and lists in turn", RECONSTRUCT, 10, 0, "(0600ffff 07008000)*15 0600ffff 02000100",
       "(03*15 " EMPTY " 03 03 02 03*14)*15 03*15 " ZERO " 03 " ZERO " 00*465", "" },
     { "arrays of 65,535", RECONSTRUCT, 10, 0, "0600ffff*31 01000000", "03*496 00*497", "" },
-    { "arrays of 65,535 over an integer", RECONSTRUCT, 10, 0, "0600ffff*31 02000100", "03*496 00*497", "" },
+    { "arrays of 65,535 over an integer", RECONSTRUCT, 10, 0, "0600ffff*31 02000100",
+      "03*496 00*497", "" },
     { "lists of a list", RECONSTRUCT, 0, 1152, "07008000*31 01000000", "(" LAST ")*31 02 00", "" },
-    { "lists of a list over an integer", RECONSTRUCT, 0, 1152,
-      "07008000*31 02000100", "(" LAST ")*31 " ZERO, "" },
-    { "tuples of 33 over an integer", RECONSTRUCT, 0, 36864,
-      "(05000021 05000000*32)*31 02000100", "(" SPINE ")*31 " ZERO, "" },
-    { "options over a list", WRITE_FRAME, 0, 6,
-      "04000000*30 07004000 05000000", "04010000*30 07000001 05000000", "" },
+    { "lists of a list over an integer", RECONSTRUCT, 0, 1152, "07008000*31 02000100",
+      "(" LAST ")*31 " ZERO, "" },
+    { "tuples of 33 over an integer", RECONSTRUCT, 0, 36864, "(05000021 05000000*32)*31 02000100",
+      "(" SPINE ")*31 " ZERO, "" },
+    { "options over a list", WRITE_FRAME, 0, 6, "04000000*30 07004000 05000000",
+      "04010000*30 07000001 05000000", "" },
     { "enums of 65 over a list", READ_FRAME, 0, 612, ENUMS, CHOICES, "" },
     { "enums of 65 over a list", PART_READ, 0, 612, ENUMS, CHOICES, "" },
     { "enums of 65 over a list", PART_EDIT, 0, 15, ENUMS, CHOICES, CHOSEN },
@@ -291,7 +305,8 @@ static void prepare(struct call *c, const struct question *q)
     c->value = values(q->value);
 }
 
-/* In a process of its own: does the question end within the stack, with its number and length? */
+/* In a process of its own: does the question end within the stack stated, with its number and
+ * length? */
 static int answers(const struct question *q, int measure)
 {
     static struct call c;
@@ -300,9 +315,12 @@ static int answers(const struct question *q, int measure)
     if (measure)
         printf("%-12s %7zu of %7zu bytes  %s\n", c.entry.name, used, c.entry.stack, q->name);
     if (c.number != q->number || c.length != q->length)
-        printf("%s, %s: the number is %u, the length %zu\n", c.entry.name, q->name, (unsigned)c.number, c.length);
+        printf("%s, %s: the number is %u, the length %zu\n", c.entry.name, q->name,
+               (unsigned)c.number, c.length);
+    if (used > c.entry.stack)
+        printf("%s, %s: took %zu bytes of stack\n", c.entry.name, q->name, used);
     fflush(stdout);
-    return c.number == q->number && c.length == q->length;
+    return c.number == q->number && c.length == q->length && used <= c.entry.stack;
 }
 
 int stacks(int measure)
@@ -320,8 +338,8 @@ int stacks(int measure)
             _exit(answers(q, measure) ? 0 : 1);
         must(waitpid(child, &status, 0) == child, "a process's end");
         if (WIFSIGNALED(status))
-            printf("%s, %s: needs more than the %zu bytes of stack stated\n", entries[q->op].name, q->name,
-                   entries[q->op].stack);
+            printf("%s, %s: needs more than the %zu bytes of stack stated\n", entries[q->op].name,
+                   q->name, entries[q->op].stack);
         failed += status != 0;
     }
     munmap(memory - GUARD, GUARD + STACKS);

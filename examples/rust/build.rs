@@ -11,6 +11,9 @@ fn main() {
         Some(folder) => PathBuf::from(folder),
         None => PathBuf::from(here).join("../../target/staticlib"),
     };
+    if env::var("CARGO_CFG_TARGET_ARCH").as_deref() != Ok("x86_64") {
+        println!("cargo::error=libniegluk.a is for x86-64 only");
+    }
     let library = folder.join("libniegluk.a");
     println!("cargo::rerun-if-changed={}", library.display());
     if !library.is_file() {

@@ -69,7 +69,7 @@ pub fn lower(ty: &[u8], out: &mut [u8]) -> Result<usize, Refusal> {
             ty.len(),
             out.as_mut_ptr(),
             out.len(),
-            &mut length,
+            &raw mut length,
         )
     };
     reply(number, length)
@@ -102,7 +102,7 @@ pub fn write_shape(ty: &[u8], value: &[u8], out: &mut [u8]) -> Result<usize, Ref
             value.len(),
             out.as_mut_ptr(),
             out.len(),
-            &mut length,
+            &raw mut length,
         )
     };
     reply(number, length)
@@ -134,7 +134,7 @@ pub fn reconstruct(ty: &[u8], shape: &[u8], out: &mut [u8]) -> Result<usize, Ref
             shape.len(),
             out.as_mut_ptr(),
             out.len(),
-            &mut length,
+            &raw mut length,
         )
     };
     reply(number, length)
@@ -167,7 +167,7 @@ pub fn write_frame(ty: &[u8], value: &[u8], out: &mut [u8]) -> Result<usize, Ref
             value.len(),
             out.as_mut_ptr(),
             out.len(),
-            &mut length,
+            &raw mut length,
         )
     };
     reply(number, length)
@@ -200,7 +200,7 @@ pub fn read_frame(ty: &[u8], frame: &[u8], out: &mut [u8]) -> Result<usize, Refu
             frame.len(),
             out.as_mut_ptr(),
             out.len(),
-            &mut length,
+            &raw mut length,
         )
     };
     reply(number, length)
@@ -236,7 +236,7 @@ pub fn part_read(ty: &[u8], frame: &[u8], path: &[u8], out: &mut [u8]) -> Result
             path.len(),
             out.as_mut_ptr(),
             out.len(),
-            &mut length,
+            &raw mut length,
         )
     };
     reply(number, length)
@@ -272,7 +272,7 @@ pub fn part_edit(ty: &[u8], frame: &mut [u8], path: &[u8], value: &[u8]) -> Resu
             path.len(),
             value.as_ptr(),
             value.len(),
-            &mut length,
+            &raw mut length,
         )
     };
     reply(number, length)

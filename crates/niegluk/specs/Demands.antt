@@ -14,11 +14,14 @@ use Rattle.model.specs.Numbers.{no-room}
 use Rattle.model.specs.Outcome.{Outcome, done, refused}
 use Rattle.model.specs.Bytes.{Bytes}
 use Rattle.model.specs.Frames.{after}
-use Rattle.model.specs.Operations.{shaped, reconstructed, framed, unframed, delivered}
+use Rattle.model.specs.Types.{Ty}
+use Rattle.model.specs.Values.{Value}
+use Rattle.model.specs.ValueFiles.{value-of}
+use Rattle.model.specs.Operations.{lowering, shaped, reconstructed, framed, unframed, delivered}
 use Rattle.model.specs.Conditions.{ShapeBelongs, FrameAccepted}
 use Rattle.model.specs.Laws.Outcome.{done-injective}
 use Rattle.model.specs.Laws.Numbered.{Rows, shaped-row, reconstructed-row, framed-row, unframed-row}
-use Rattle.model.specs.Laws.Demands.{OneValue, shape-reads-back, belonging-shape-reads, frame-reads-back, accepted-frame-reads, frame-accepted}
+use Rattle.model.specs.Laws.Demands.{OneValue, value-has-shape, value-has-frame, shape-reads-back, belonging-shape-reads, frame-reads-back, accepted-frame-reads, frame-accepted}
 use Rattle.model.specs.Calls.{WriteShape, Reconstruct, WriteFrame, ReadFrame}
 
 -- WHAT IS SAID OF CALLS
@@ -102,6 +105,10 @@ again {writes = writes} r x e = ap writes (done-injective x (r .val) (sym e ∙ 
 -- DEMAND 2
 
 module _ (ty : List ℕ) (b : Bytes ty) where
+  -- of a value of a type that lowers, every call of `write_shape` makes one shape, which belongs to the type
+  pub value-shaped : (t : Ty) → lowering ty ≡ done t → (val : List ℕ) (v : Value t) → value-of t val ≡ done v → Bytes val → (shape : List ℕ) × Makes (WriteShape ty) val shape × ShapeBelongs ty shape
+  value-shaped t k val v h c = let (shape, e, s) = value-has-shape ty b t k val v h c in (shape, makes (shaped ty) val shape e, s)
+
   -- what a call of `write_shape` left, a call of `reconstruct` turns into the value file it came from
   pub shape-returns : (val : List ℕ) → Bytes val → Returns (WriteShape ty) (Reconstruct ty) val
   shape-returns val c = returns (shaped ty) (reconstructed ty) val (λ m e. no-zero (omega arith) (shaped-row ty val m e)) (λ shape e. shape-reads-back ty b val shape c e)
@@ -113,6 +120,10 @@ module _ (ty : List ℕ) (b : Bytes ty) where
   -- and what a call of `reconstruct` left of it, a call of `write_shape` writes to that shape again
   pub value-returns : (shape : List ℕ) → ShapeBelongs ty shape → Returns (Reconstruct ty) (WriteShape ty) shape
   value-returns shape s = returns (reconstructed ty) (shaped ty) shape (λ m e. no-zero (omega arith) (reconstructed-row ty shape m e)) (again (belonging-shape-reads ty b shape s))
+
+  -- likewise every call of `write_frame` one frame, which is accepted for the type
+  pub value-framed : (t : Ty) → lowering ty ≡ done t → (val : List ℕ) (v : Value t) → value-of t val ≡ done v → Bytes val → (frame : List ℕ) × Makes (WriteFrame ty) val frame × FrameAccepted after ty frame
+  value-framed t k val v h c = let (frame, e, a) = value-has-frame ty b after t k val v h c in (frame, makes (framed after ty) val frame e, a)
 
   -- what a call of `write_frame` left, a call of `read_frame` turns into the value file it came from
   pub frame-returns : (val : List ℕ) → Bytes val → Returns (WriteFrame ty) (ReadFrame ty) val

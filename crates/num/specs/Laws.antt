@@ -8,8 +8,8 @@ use Prim.Native.Nat.{ℕ, zero, suc, _+_, _/_, _^_, _≤_, _<_}
 use native.Mathlib.Nat.{two-pow-succ, one-le-pow, pow-le-pow-right}
 use native.Mathlib.Decide.{decLe}
 use native.Mathlib.Omega.{arith}
-use lib.Dec.{eqb}
-use borrow.Author.Tests.{eqb-true, eq-eqb, ne-eqb, le-ltb}
+use lib.Dec.{eqb, ltb}
+use borrow.Author.Tests.{eqb-true, eq-eqb, ne-eqb, ltb-true, le-ltb}
 use Rattle.model.specs.Options.{pick, mapO, one-of, find}
 use Rattle.model.specs.TypeFiles.{widths}
 use Rattle.model.specs.Laws.TypeFiles.{find-sound}
@@ -128,6 +128,23 @@ half-bound-two = refl
 pub half-bound-more : (e : ℕ) → bounds.Of (bound (2 ^ suc e)) ≡ half-bound (2 ^ suc (suc e))
 unfolding half-bound
 half-bound-more e = rw (half-power (suc e), le-ltb (2 ^ suc e) 2 (omega (arith, two-pow-succ e, one-le-pow e 2 (omega arith))))
+
+-- the half as a number: 1 at 2, else the half's own
+pub half-one : (n : ℕ) → 2 ≤ n → bounds.Not ≡ half-bound n → n / 2 ≡ 1
+unfolding half-bound
+half-one n l e = go (ltb (n / 2) 2) refl e
+  where
+    go : (c : Bool) → ltb (n / 2) 2 ≡ c → bounds.Not ≡ pick c bounds.Not (bounds.Of (bound (n / 2))) → n / 2 ≡ 1
+    go true w h = let m = ltb-true (n / 2) 2 w in omega arith
+    go false w h = let z : _≡_ {A = ℕ} 0 1 = cc in absurd (omega arith)
+
+pub half-is : (n : ℕ) {h : NonZeroPow2Usize} → bounds.Of h ≡ half-bound n → n / 2 ≡ h .0
+unfolding half-bound
+half-is n {h} e = go (ltb (n / 2) 2) e
+  where
+    go : (c : Bool) → bounds.Of h ≡ pick c bounds.Not (bounds.Of (bound (n / 2))) → n / 2 ≡ h .0
+    go true h = let z : _≡_ {A = ℕ} 0 1 = cc in absurd (omega arith)
+    go false e = let i : bound (n / 2) ≡ h = cc in ap (λ (b : NonZeroPow2Usize). b .0) i
 
 -- BIT WIDTHS
 

@@ -5,16 +5,16 @@ use mathlib.Core.List.{List, [], _∷_, _++_}
 use mathlib.Core.Option.{Option, some, Option·none-ne-some, Option·some-injective}
 use Prim.Native.Nat.{ℕ, zero, suc, _+_, _-_, _/_, _^_, _≤_, _<_}
 use native.Mathlib.Omega.{arith}
-use borrow.Author.Tests.{ltb-true}
 use mir.Syntax.{w64}
 use mir.Val.{Fits}
-use lib.Dec.{eqb, ltb}
+use lib.Dec.{eqb}
 use lib.ListN.{length, getD}
 use Rattle.model.specs.Laws.Balanced.{Shares}
 use Rattle.num.specs.declared.NonZeroPow2Usize.{NonZeroPow2Usize}
 use Rattle.num.specs.declared.Bound.{Bound}
 use Rattle.num.specs.declared.Bound.the-variants as bounds
-use Rattle.num.specs.Powers.{bound, half-bound}
+use Rattle.num.specs.Powers.{half-bound}
+use Rattle.num.specs.Laws.{half-one, half-is}
 use Rattle.model.specs.Options.{pick, mapO}
 use Rattle.model.specs.Bytes.{of-bits}
 use Rattle.model.specs.Structural.{SValue}
@@ -141,6 +141,13 @@ module _ {g b : Given (List Rec)} {out : List ℕ} (e : g ≡ b) where
 
   pub placed-as : {o : List ℕ} {next len : ℕ} → Placed b out o next len → Placed g out o next len
   placed-as v = record { recs = v .recs; there = e ∙ v .there; wrote = v .wrote }
+
+module _ {g b : Given (ℕ × List Rec)} {out : List ℕ} (e : g ≡ b) where
+  ready-numbered-as : ReadyNumbered b out → ReadyNumbered g out
+  ready-numbered-as r = record { number = r .number; recs = r .recs; end = r .end; there = e ∙ r .there; room = r .room }
+
+  placed-numbered-as : {i : ℕ} {o : List ℕ} {r : Numbered} → PlacedNumbered b i out o r → PlacedNumbered g i out o r
+  placed-numbered-as v = record { number = v .number; recs = v .recs; there = e ∙ v .there; counted = v .counted; wrote = v .wrote }
 
 module _ (k : Parts) (d : ℕ) (s sh : List ℕ) (n p q : ℕ) (out : List ℕ) (g : Ready (made-at sh (product k d s n p) q) out) where
   pub none-found : n ≡ 0 → Found (tree-at sh q)
@@ -281,20 +288,20 @@ module _ (d : ℕ) (s sh : List ℕ) (n p q : ℕ) (out : List ℕ) (g : ReadyNu
   in-held : Held sh d s n p q (g .number) (g .recs) (g .end)
   in-held = block-held sh d s n p q (g .number) (g .recs) (g .end) (g .there)
 
-  pub block-starts : q < length sh
+  block-starts : q < length sh
   block-starts = in-held .inside
 
-  pub block-fits : length sh < 2 ^ 64 → Fits w64 (q + 1)
+  block-fits : length sh < 2 ^ 64 → Fits w64 (q + 1)
   block-fits m = let l = block-starts in omega arith
 
   module _ {m : ℕ} (e : m ≡ held (getD sh q 0) n) where
     held-is : made-at sh (product Copies d s m p) (q + 1) ≡ some (g .recs, g .end)
     held-is = ap (λ j. made-at sh (product Copies d s j p) (q + 1)) (e ∙ in-held .number) ∙ in-held .below
 
-    pub held-ready : Ready (made-at sh (product Copies d s m p) (q + 1)) out
+    held-ready : Ready (made-at sh (product Copies d s m p) (q + 1)) out
     held-ready = record { recs = g .recs; end = g .end; there = held-is; room = g .room }
 
-    pub held-placed : {o : List ℕ} {next len : ℕ} → Placed (made-at sh (product Copies d s m p) (q + 1)) out o next len → PlacedNumbered (made-at sh (blocked d s n p) q) 0 out o (record { number = m; next = next; len = len })
+    held-placed : {o : List ℕ} {next len : ℕ} → Placed (made-at sh (product Copies d s m p) (q + 1)) out o next len → PlacedNumbered (made-at sh (blocked d s n p) q) 0 out o (record { number = m; next = next; len = len })
     held-placed {o} {next} {len} v = record {
       number = g .number;
       recs = g .recs;
@@ -304,7 +311,7 @@ module _ (d : ℕ) (s sh : List ℕ) (n p q : ℕ) (out : List ℕ) (g : ReadyNu
     }
 
 -- no block holds more than all its elements
-pub held-few : (side n : ℕ) {m : ℕ} → m ≡ held side n → m ≤ n
+held-few : (side n : ℕ) {m : ℕ} → m ≡ held side n → m ≤ n
 unfolding held
 held-few side n {m} e = go (eqb side 1) e
   where
@@ -314,33 +321,16 @@ held-few side n {m} e = go (eqb side 1) e
 
 -- LISTS
 
--- the half of a bound as a number: 1 with the bound 2
-half-two : (n : ℕ) → 2 ≤ n → bounds.Not ≡ half-bound n → n / 2 ≡ 1
-unfolding half-bound
-half-two n l e = go (ltb (n / 2) 2) refl e
-  where
-    go : (c : Bool) → ltb (n / 2) 2 ≡ c → bounds.Not ≡ pick c bounds.Not (bounds.Of (bound (n / 2))) → n / 2 ≡ 1
-    go true w h = let m = ltb-true (n / 2) 2 w in omega arith
-    go false w h = let z : _≡_ {A = ℕ} 0 1 = cc in absurd (omega arith)
-
-half-more : (n : ℕ) {h : NonZeroPow2Usize} → bounds.Of h ≡ half-bound n → n / 2 ≡ h .0
-unfolding half-bound
-half-more n {h} e = go (ltb (n / 2) 2) e
-  where
-    go : (c : Bool) → bounds.Of h ≡ pick c bounds.Not (bounds.Of (bound (n / 2))) → n / 2 ≡ h .0
-    go true h = let z : _≡_ {A = ℕ} 0 1 = cc in absurd (omega arith)
-    go false e = let i : bound (n / 2) ≡ h = cc in ap (λ (b : NonZeroPow2Usize). b .0) i
-
 module _ (d : ℕ) (s sh : List ℕ) (b : NonZeroPow2Usize) (p q : ℕ) (out : List ℕ) (f : FairBound b) (g : ReadyNumbered (made-at sh (elements d s b p) q) out) where
   module _ {x : Bound} (k : x ≡ half-bound (b .0)) (t : x ≡ bounds.Not) where
     as-block : made-at sh (elements d s b p) q ≡ made-at sh (blocked d s 1 p) q
     as-block = list-two sh d s p q f (sym t ∙ k)
 
     two-ready : ReadyNumbered (made-at sh (blocked d s 1 p) q) out
-    two-ready = record { number = g .number; recs = g .recs; end = g .end; there = sym as-block ∙ g .there; room = g .room }
+    two-ready = ready-numbered-as (sym as-block) g
 
     two-placed : {o : List ℕ} {r : Numbered} → PlacedNumbered (made-at sh (blocked d s 1 p) q) 0 out o r → PlacedNumbered (made-at sh (elements d s b p) q) 0 out o r
-    two-placed v = record { number = v .number; recs = v .recs; there = as-block ∙ v .there; counted = v .counted; wrote = v .wrote }
+    two-placed v = placed-numbered-as as-block v
 
     pub two-inside : q < length sh
     two-inside = block-starts d s sh 1 p q out two-ready
@@ -428,17 +418,17 @@ module _ (d : ℕ) (s sh : List ℕ) (b : NonZeroPow2Usize) (p q : ℕ) (out : L
   -- the block at the front, of half the bound and behind so many pairs
   module _ {i m : ℕ} (e : i ≡ pairs-before (half-bound (b .0))) (l : m ≡ b .0 / 2) where
     front-two : bounds.Not ≡ half-bound (b .0) → made-at sh (blocked d s m p) (q + i) ≡ made-at sh (blocked d s 1 p) q
-    front-two k = let a = e ∙ ap pairs-before (sym k) in ap₂ (λ n x. made-at sh (blocked d s n p) x) (l ∙ half-two (b .0) (bound-range b f .0) k) (omega arith)
+    front-two k = let a = e ∙ ap pairs-before (sym k) in ap₂ (λ n x. made-at sh (blocked d s n p) x) (l ∙ half-one (b .0) (bound-range b f .0) k) (omega arith)
 
     front-more : {h : NonZeroPow2Usize} → bounds.Of h ≡ half-bound (b .0) → made-at sh (blocked d s m p) (q + i) ≡ made-at sh (blocked d s m p) (q + 1)
     front-more k = let a = e ∙ ap pairs-before (sym k) in ap (made-at sh (blocked d s m p)) (omega arith)
 
-    pub front-ready : ReadyNumbered (made-at sh (blocked d s m p) (q + i)) out
+    front-ready : ReadyNumbered (made-at sh (blocked d s m p) (q + i)) out
     front-ready = go (half-bound (b .0)) refl
       where
         go : (x : Bound) → x ≡ half-bound (b .0) → ReadyNumbered (made-at sh (blocked d s m p) (q + i)) out
-        go bounds.Not k = let y = two-ready k refl in record { number = y .number; recs = y .recs; end = y .end; there = front-two k ∙ y .there; room = y .room }
-        go (bounds.Of h) k = let y = block-ready k refl (l ∙ half-more (b .0) k) in record { number = y .number; recs = y .recs; end = y .end; there = front-more k ∙ y .there; room = y .room }
+        go bounds.Not k = ready-numbered-as (front-two k) (two-ready k refl)
+        go (bounds.Of h) k = ready-numbered-as (front-more k) (block-ready k refl (l ∙ half-is (b .0) k))
 
     pub front-inside : q + i < length sh
     front-inside = block-starts d s sh m p (q + i) out front-ready
@@ -462,30 +452,30 @@ module _ (d : ℕ) (s sh : List ℕ) (b : NonZeroPow2Usize) (p q : ℕ) (out : L
         front-placed = held-placed d s sh m p (q + i) out front-ready c v
 
         pub alone-placed : x ≡ bounds.Not → PlacedNumbered (made-at sh (elements d s b p) q) 0 out o (record { number = n; next = next; len = len })
-        alone-placed t = let y = front-placed in two-placed k t (record { number = y .number; recs = y .recs; there = sym (front-two (sym t ∙ k)) ∙ y .there; counted = y .counted; wrote = y .wrote })
+        alone-placed t = two-placed k t (placed-numbered-as (sym (front-two (sym t ∙ k))) front-placed)
 
         module _ {h : NonZeroPow2Usize} (t : x ≡ bounds.Of h) where
-          half-is : m ≡ h .0
-          half-is = l ∙ half-more (b .0) (sym t ∙ k)
+          half-same : m ≡ h .0
+          half-same = l ∙ half-is (b .0) (sym t ∙ k)
 
           block-placed : PlacedNumbered (made-at sh (blocked d s m p) (q + 1)) 0 out o (record { number = n; next = next; len = len })
-          block-placed = let y = front-placed in record { number = y .number; recs = y .recs; there = sym (front-more (sym t ∙ k)) ∙ y .there; counted = y .counted; wrote = y .wrote }
+          block-placed = placed-numbered-as (sym (front-more (sym t ∙ k))) front-placed
 
           pub elements-end : len ≤ length o
-          elements-end = block-ends k t half-is block-placed
+          elements-end = block-ends k t half-same block-placed
 
           pub rest-ready : ReadyNumbered (made-at sh (elements d s h p) next) (rest len o)
-          rest-ready = list-ready k t half-is block-placed
+          rest-ready = list-ready k t half-same block-placed
 
           module _ {y : List ℕ} {r : Numbered} (u : PlacedNumbered (made-at sh (elements d s h p) next) 0 (rest len o) y r) where
             pub rest-placed : PlacedNumbered (made-at sh (elements d s b p) q) 0 out (back len o y) (record { number = n + r .number; next = r .next; len = r .len + len })
-            rest-placed = list-placed k t half-is block-placed u
+            rest-placed = list-placed k t half-same block-placed u
 
             pub rest-small : r .len + len ≤ length out
-            rest-small = list-small k t half-is block-placed u
+            rest-small = list-small k t half-same block-placed u
 
             pub count-small : n + r .number < b .0
-            count-small = list-few k t half-is block-placed u
+            count-small = list-few k t half-same block-placed u
 
 -- A RECORD AND WHAT STANDS BELOW IT
 

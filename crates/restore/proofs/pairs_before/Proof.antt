@@ -1,6 +1,5 @@
 -- The half of the bound decides. Assumes nothing.
 use mathlib.Core.Path.{_≡_, sym, ap, _∙_}
-use Prim.Native.Nat.{ℕ}
 use borrow.Author.Needs.{needs}
 use Rattle.num.specs.declared.NonZeroPow2Usize.{NonZeroPow2Usize}
 use Rattle.num.specs.declared.Bound.{Bound}

@@ -10,7 +10,7 @@
  * the buffer past its end as it was; a refusal leaves all of them.
  *
  * A List bounded at b holds at most b - 1 elements: a value with b elements is
- * refused, with number 16.
+ * refused, with number 22.
  *
  * The caller sees to it that
  * - each pointer points to as many bytes as the length after it says (a null
@@ -40,7 +40,9 @@
 extern "C" {
 #endif
 
-/* What a function answers: one of these, and nothing else. */
+/* What a function answers: one of these, and nothing else. 16, 21 and 22 are of one
+ * place: of the value file's faults the one at its earliest record decides, and at
+ * one record 16 comes before 21 and 22. */
 enum niegluk_number {
     /* the operation is accepted */
     NIEGLUK_OK = 0,
@@ -77,6 +79,10 @@ enum niegluk_number {
     NIEGLUK_VALUE_LENGTH = 15,
     /* the value file is not one value of the type; for an edit, of the part's type */
     NIEGLUK_NOT_ONE_VALUE = 16,
+    /* in the place of 16, an integer in the value file is too large for its width */
+    NIEGLUK_INTEGER_TOO_LARGE = 21,
+    /* in the place of 16, a list in the value file is as long as its bound, or longer */
+    NIEGLUK_LIST_TOO_LONG = 22,
     /* the result needs more bytes than the buffer has */
     NIEGLUK_NO_ROOM = 17
 };
@@ -107,7 +113,7 @@ uint32_t niegluk_lower(const uint8_t *ty, size_t ty_len,
 
 /* Writes the shape of a value: its records, one byte each (0 a unit, 1 a left, 2 a
  * right, 3 a pair), parent first.
- * At most 65,536 bytes. Numbers 1 to 7, 15, 16 and 17. */
+ * At most 65,536 bytes. Numbers 1 to 7, 15, 16, 21, 22 and 17. */
 uint32_t niegluk_write_shape(const uint8_t *ty, size_t ty_len,
                              const uint8_t *value, size_t value_len,
                              uint8_t *out, size_t out_len, size_t *length);
@@ -122,7 +128,8 @@ uint32_t niegluk_reconstruct(const uint8_t *ty, size_t ty_len,
 
 /* Writes the frame of a value: its bits, the first the highest of byte 0, and zeros
  * to the end of the last byte.
- * At most 4,096 bytes, none for a type of width 0. Numbers 1 to 7, 15, 16 and 17. */
+ * At most 4,096 bytes, none for a type of width 0. Numbers 1 to 7, 15, 16, 21, 22
+ * and 17. */
 uint32_t niegluk_write_frame(const uint8_t *ty, size_t ty_len,
                              const uint8_t *value, size_t value_len,
                              uint8_t *out, size_t out_len, size_t *length);
@@ -147,7 +154,7 @@ uint32_t niegluk_part_read(const uint8_t *ty, size_t ty_len,
 /* Replaces a part of a frame by a value of the part's type, in the frame's own
  * bytes: the part's bits, its inner padding included, are those of the new value's
  * frame, and no other bit changes. *length is frame_len where accepted. Refused, no
- * bit of the frame changes. Numbers 1 to 7 and 11 to 16. */
+ * bit of the frame changes. Numbers 1 to 7, 11 to 16, 21 and 22. */
 uint32_t niegluk_part_edit(const uint8_t *ty, size_t ty_len,
                            uint8_t *frame, size_t frame_len,
                            const uint8_t *path, size_t path_len,

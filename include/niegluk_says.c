@@ -41,6 +41,10 @@ const char *niegluk_says(uint32_t number)
     case NIEGLUK_NOT_ONE_VALUE:
         return "The value file is not one value of the type; for an edit, of the "
                "part's type.";
+    case NIEGLUK_INTEGER_TOO_LARGE:
+        return "An integer in the value file is too large for its width.";
+    case NIEGLUK_LIST_TOO_LONG:
+        return "A list in the value file is as long as its bound, or longer.";
     case NIEGLUK_NO_ROOM:
         return "The result needs more bytes than the buffer has.";
     default:

@@ -281,12 +281,28 @@ struct Record<'a> {
     integer: &'a [u8; 32],
 }
 
-fn take_value_record<'a>(rest: &mut &'a [u8]) -> Option<Record<'a>> {
-    let (record, after) = rest.split_first_chunk::<36>()?;
-    *rest = after;
-    let [kind, choice, high, low, ..] = *record;
-    let integer = record[4..].try_into().unwrap();
-    Some(Record { kind, choice, n: high as usize * 256 + low as usize, integer })
+/// The records that are left, and the number that a fault among them earns.
+struct Rest<'a> {
+    bytes: &'a [u8],
+    number: u32,
+}
+
+impl<'a> Rest<'a> {
+    fn record(&mut self) -> Option<Record<'a>> {
+        let (record, after) = self.bytes.split_first_chunk::<36>()?;
+        self.bytes = after;
+        let [kind, choice, high, low, ..] = *record;
+        let integer = record[4..].try_into().unwrap();
+        Some(Record { kind, choice, n: high as usize * 256 + low as usize, integer })
+    }
+
+    /// This must hold, or else the number.
+    fn must(&mut self, holds: bool, number: u32) -> Option<()> {
+        if !holds {
+            self.number = number;
+        }
+        holds.then_some(())
+    }
 }
 
 impl Record<'_> {
@@ -305,22 +321,23 @@ impl Record<'_> {
     }
 
     /// An integer of so many bits: its bytes, of which the first may be used in part.
-    fn integer(&self, bits: usize) -> Option<&[u8]> {
+    fn integer(&self, bits: usize, rest: &mut Rest) -> Option<&[u8]> {
+        (self.kind == 2 && self.choice == 0 && self.n == bits).then_some(())?;
         let (zeros, used) = self.integer.split_at(32 - bits.div_ceil(8));
-        let good = self.kind == 2 && self.choice == 0 && self.n == bits && zeros.iter().all(|&b| b == 0);
-        (good && (bits >= 8 || used[0] >> bits == 0)).then_some(used)
+        rest.must(zeros.iter().all(|&b| b == 0) && (bits >= 8 || used[0] >> bits == 0), 21)?;
+        Some(used)
     }
 }
 
-/// Row 15, the walk over the file, row 16.
-fn whole_file(file: &[u8], walk: impl FnOnce(&mut &[u8]) -> Option<()>) -> Outcome<()> {
+/// Row 15, the walk over the file, rows 16, 21 and 22.
+fn whole_file(file: &[u8], walk: impl FnOnce(&mut Rest) -> Option<()>) -> Outcome<()> {
     if file.is_empty() || file.len() % 36 != 0 {
         return Err(15);
     }
-    let mut rest = file;
+    let mut rest = Rest { bytes: file, number: 16 };
     match walk(&mut rest) {
-        Some(()) if rest.is_empty() => Ok(()),
-        _ => Err(16),
+        Some(()) if rest.bytes.is_empty() => Ok(()),
+        _ => Err(rest.number),
     }
 }
 
@@ -341,8 +358,8 @@ pub fn write_shape(ty: &[u8], value: &[u8], out: &mut [u8]) -> Outcome<usize> {
     deliver(&shape, out)
 }
 
-fn put_shape(ty: &Ty, rest: &mut &[u8], out: &mut Vec<u8>) -> Option<()> {
-    let record = take_value_record(rest)?;
+fn put_shape(ty: &Ty, rest: &mut Rest, out: &mut Vec<u8>) -> Option<()> {
+    let record = rest.record()?;
     match &ty.kind {
         Kind::Never => None,
         Kind::Bool => {
@@ -350,7 +367,7 @@ fn put_shape(ty: &Ty, rest: &mut &[u8], out: &mut Vec<u8>) -> Option<()> {
             Some(())
         }
         Kind::UInt(bits) => {
-            put_integer(record.integer(*bits)?, 8 * bits.div_ceil(8) - bits, *bits, out);
+            put_integer(record.integer(*bits, rest)?, 8 * bits.div_ceil(8) - bits, *bits, out);
             Some(())
         }
         Kind::Either(sides) => {
@@ -376,7 +393,7 @@ fn put_shape(ty: &Ty, rest: &mut &[u8], out: &mut Vec<u8>) -> Option<()> {
         }
         Kind::List(bound, t) => {
             let n = record.number(7)?;
-            (n < *bound).then_some(())?;
+            rest.must(n < *bound, 22)?;
             put_blocks(*bound, n, t, rest, out)
         }
         Kind::Enum(variants) => {
@@ -401,7 +418,7 @@ fn put_parts<'a, F: Fn(usize) -> &'a Ty>(
     from: usize,
     n: usize,
     ty: &F,
-    rest: &mut &[u8],
+    rest: &mut Rest,
     out: &mut Vec<u8>,
 ) -> Option<()> {
     match n {
@@ -420,7 +437,7 @@ fn put_parts<'a, F: Fn(usize) -> &'a Ty>(
 }
 
 /// The largest block first, if enough elements remain for it.
-fn put_blocks(bound: usize, n: usize, t: &Ty, rest: &mut &[u8], out: &mut Vec<u8>) -> Option<()> {
+fn put_blocks(bound: usize, n: usize, t: &Ty, rest: &mut Rest, out: &mut Vec<u8>) -> Option<()> {
     let block = bound / 2;
     if bound > 2 {
         out.push(3);
@@ -674,8 +691,8 @@ pub fn write_frame(ty: &[u8], value: &[u8], out: &mut [u8]) -> Outcome<usize> {
 }
 
 /// Writes the value at bit `at`, its padding too.
-fn put_frame(ty: &Ty, rest: &mut &[u8], frame: &mut [u8], at: usize) -> Option<()> {
-    let record = take_value_record(rest)?;
+fn put_frame(ty: &Ty, rest: &mut Rest, frame: &mut [u8], at: usize) -> Option<()> {
+    let record = rest.record()?;
     let end = at + ty.width;
     match &ty.kind {
         Kind::Never => None,
@@ -685,7 +702,7 @@ fn put_frame(ty: &Ty, rest: &mut &[u8], frame: &mut [u8], at: usize) -> Option<(
         }
         Kind::UInt(bits) => {
             let mut at = at;
-            for byte in record.integer(*bits)? {
+            for byte in record.integer(*bits, rest)? {
                 set_bits(frame, at, *byte, (*bits).min(8));
                 at += 8;
             }
@@ -718,7 +735,7 @@ fn put_frame(ty: &Ty, rest: &mut &[u8], frame: &mut [u8], at: usize) -> Option<(
         }
         Kind::List(bound, t) => {
             let mut left = record.number(7)?;
-            (left < *bound).then_some(())?;
+            rest.must(left < *bound, 22)?;
             let (mut block, mut at) = (bound / 2, at);
             while block > 0 {
                 let full = left >= block;
@@ -746,7 +763,7 @@ fn put_frame(ty: &Ty, rest: &mut &[u8], frame: &mut [u8], at: usize) -> Option<(
     }
 }
 
-fn put_row(parts: &[Ty], rest: &mut &[u8], frame: &mut [u8], mut at: usize) -> Option<()> {
+fn put_row(parts: &[Ty], rest: &mut Rest, frame: &mut [u8], mut at: usize) -> Option<()> {
     for t in parts {
         put_frame(t, rest, frame, at)?;
         at += t.width;
@@ -754,7 +771,7 @@ fn put_row(parts: &[Ty], rest: &mut &[u8], frame: &mut [u8], mut at: usize) -> O
     Some(())
 }
 
-fn put_run(n: usize, t: &Ty, rest: &mut &[u8], frame: &mut [u8], at: usize) -> Option<()> {
+fn put_run(n: usize, t: &Ty, rest: &mut Rest, frame: &mut [u8], at: usize) -> Option<()> {
     for i in 0..n {
         put_frame(t, rest, frame, at + i * t.width)?;
     }

@@ -4,7 +4,7 @@ use std::panic::{catch_unwind, AssertUnwindSafe};
 use std::sync::atomic::Ordering;
 
 use crate::case::{Answer, Case};
-use crate::expect::{outcome, Entry, Outcome, ENTRIES};
+use crate::expect::{outcome, Entry, Outcome, ENTRIES, NUMBERS};
 use crate::faulty::{FAULT, FAULTS};
 use crate::generate::{random_case, random_room, Scale};
 use crate::library;
@@ -17,14 +17,14 @@ const MOST_SHOWN: u64 = 3;
 /// The counts of one entry: by number, 0 where accepted.
 #[derive(Clone, Copy, Default)]
 struct Counts {
-    by_number: [u64; 18],
+    by_number: [u64; NUMBERS],
     differ: u64,
 }
 
 impl Counts {
     fn line(&self, entry: Entry) -> String {
         let cases = self.by_number.iter().sum::<u64>() + self.differ;
-        let refused = (1..18).filter(|&n| self.by_number[n] > 0);
+        let refused = (1..NUMBERS).filter(|&n| self.by_number[n] > 0);
         let refused: Vec<String> = refused.map(|n| format!("{n}:{}", self.by_number[n])).collect();
         let against = if library::has(entry) { "" } else { " (not in the library)" };
         let (name, accepted, differ) = (entry.name(), self.by_number[0], self.differ);
@@ -34,7 +34,7 @@ impl Counts {
 
 /// What went wrong with a case, if anything.
 pub enum Trouble {
-    /// The published code and the plain one differ, or one of them panics.
+    /// The published code and the plain one differ, or the two that number a value file, or one of them panics.
     Ourselves(String),
     Library(String),
 }
@@ -55,9 +55,9 @@ fn caught<T>(what: &str, f: impl FnOnce() -> T) -> Result<T, String> {
     })
 }
 
-/// The expected outcome, or what the published code and the plain one disagree on.
+/// The expected outcome, or what our own disagree on.
 pub fn expected_outcome(case: &Case) -> Result<Outcome, Trouble> {
-    caught("published and plain", || outcome(case.entry, &case.args)).map_err(Trouble::Ourselves)
+    caught("our own", || outcome(case.entry, &case.args)).map_err(Trouble::Ourselves)
 }
 
 /// Compares the library's answer with the expected one.

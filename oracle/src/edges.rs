@@ -16,8 +16,11 @@ fn ty(records: &[(u8, u16)]) -> Vec<u8> {
     records.iter().flat_map(|&(kind, n)| [kind, 0, (n >> 8) as u8, n as u8]).collect()
 }
 
-/// Records of a value file: kind, choice, n and a small integer.
-fn val(records: &[(u8, u8, u16, u8)]) -> Vec<u8> {
+/// A record of a value file: kind, choice, n and a small integer.
+type Record = (u8, u8, u16, u8);
+
+/// The bytes of records.
+fn val(records: &[Record]) -> Vec<u8> {
     let mut out = vec![];
     for &(kind, choice, n, integer) in records {
         out.extend([kind, choice, (n >> 8) as u8, n as u8]);
@@ -60,6 +63,13 @@ impl Edges {
     fn bad(&mut self, name: &'static str, entry: Entry, args: &[&[u8]], number: u32) {
         self.put(name, entry, args, 40, Err(number));
     }
+
+    /// A value file that all its entries refuse; an edit is of the whole, in a frame of zeros.
+    fn bad_value(&mut self, name: &'static str, ty: &[u8], value: &[u8], zeros: usize, number: u32) {
+        self.bad(name, WriteShape, &[ty, value], number);
+        self.bad(name, WriteFrame, &[ty, value], number);
+        self.bad(name, PartEdit, &[ty, &vec![0; zeros], &[], value], number);
+    }
 }
 
 const LIST: [(u8, u16); 2] = [(7, 4), (2, 1)];
@@ -68,11 +78,11 @@ const CHOICE: [(u8, u16); 3] = [(3, 0), (2, 4), (1, 0)];
 const VARIANTS: [(u8, u16); 7] = [(8, 3), (9, 0), (9, 1), (2, 1), (9, 2), (2, 1), (1, 0)];
 const UNIT: (u8, u16) = (5, 0);
 
-fn bits(all: &[u8]) -> Vec<(u8, u8, u16, u8)> {
+fn bits(all: &[u8]) -> Vec<Record> {
     all.iter().map(|&b| (2, 0, 1, b)).collect()
 }
 
-fn list(all: &[u8]) -> Vec<(u8, u8, u16, u8)> {
+fn list(all: &[u8]) -> Vec<Record> {
     [vec![(7, 0, all.len() as u16, 0)], bits(all)].concat()
 }
 
@@ -107,11 +117,11 @@ fn along_the_edges(e: &mut Edges) {
         e.good("that list back", Reconstruct, &[&ty(&LIST), &digits(shape)], &val(&list(all)));
     }
     for entry in [WriteShape, WriteFrame] {
-        e.bad("four elements", entry, &[&ty(&LIST), &val(&list(&[1, 0, 1, 1]))], 16);
-        e.bad("a u1 holding 2", entry, &[&ty(&[(2, 1)]), &val(&bits(&[2]))], 16);
+        e.bad("four elements", entry, &[&ty(&LIST), &val(&list(&[1, 0, 1, 1]))], 22);
+        e.bad("a u1 holding 2", entry, &[&ty(&[(2, 1)]), &val(&bits(&[2]))], 21);
         e.bad("writing a none of Never", entry, &[&ty(&[(4, 0), (0, 0)]), &val(&[(4, 0, 0, 0)])], 6);
     }
-    let variants: [(&[(u8, u8, u16, u8)], &str); 3] = [
+    let variants: [(&[Record], &str); 3] = [
         (&[(8, 0, 0, 0)], "10"),
         (&[(8, 0, 1, 0), (2, 0, 1, 1)], "2120"),
         (&[(8, 0, 2, 0), (2, 0, 1, 1), (1, 0, 0, 0)], "2232010"),
@@ -235,7 +245,7 @@ fn other_rows(e: &mut Edges) {
     }
     let values = [
         val(&[(1, 0, 0, 0)]),
-        val(&[(2, 0, 4, 16)]),
+        val(&[(2, 1, 4, 16)]),
         val(&[(2, 1, 4, 1)]),
         val(&[(2, 0, 8, 1)]),
         val(&[(2, 0, 4, 1), (2, 0, 4, 1)]),
@@ -247,6 +257,125 @@ fn other_rows(e: &mut Edges) {
     }
     e.good("a part of width 0", PartEdit, &[&ty(&[UNIT]), &[], &[], &val(&[(5, 0, 0, 0)])], &[]);
     e.good("a frame of no bytes", WriteFrame, &[&ty(&[UNIT]), &val(&[(5, 0, 0, 0)])], &[]);
+}
+
+/// Rows 16, 21 and 22 in values of PAIR.
+fn faults_of_a_pair(e: &mut Edges) {
+    const TWO: Record = (5, 0, 2, 0);
+    const NINE: Record = (2, 0, 4, 9);
+    const SIXTEEN: Record = (2, 0, 4, 16);
+    const EMPTY: Record = (7, 0, 0, 0);
+    const FOUR: Record = (7, 0, 4, 0);
+    const ONE: Record = (2, 0, 1, 1);
+    const LARGE: Record = (2, 0, 1, 2);
+    const TRUE: Record = (1, 1, 0, 0);
+    let values: [(&'static str, &[Record], u32); 34] = [
+        ("too large", &[TWO, SIXTEEN, EMPTY], 21),
+        ("an element too large", &[TWO, NINE, (7, 0, 2, 0), ONE, LARGE], 21),
+        ("at the bound", &[TWO, NINE, FOUR, ONE, ONE, ONE, ONE], 22),
+        ("at the bound, no elements", &[TWO, NINE, FOUR], 22),
+        ("above the bound", &[TWO, NINE, (7, 0, 5, 0), ONE, ONE, ONE, ONE, ONE], 22),
+        ("far above the bound", &[TWO, NINE, (7, 0, 65_535, 0)], 22),
+        ("above the bound by the high byte", &[TWO, NINE, (7, 0, 256, 0)], 22),
+        ("too large, another kind", &[TWO, (1, 0, 4, 16), EMPTY], 16),
+        ("too large, a choice", &[TWO, (2, 1, 4, 16), EMPTY], 16),
+        ("too large, another width", &[TWO, (2, 0, 2, 16), EMPTY], 16),
+        ("fits the width that it names", &[TWO, (2, 0, 8, 16), EMPTY], 16),
+        ("at the bound, another kind", &[TWO, NINE, (6, 0, 4, 0)], 16),
+        ("at the bound, a choice", &[TWO, NINE, (7, 1, 4, 0)], 16),
+        ("at the bound, an unused byte", &[TWO, NINE, (7, 0, 4, 1)], 16),
+        ("too large, then at the bound", &[TWO, SIXTEEN, FOUR], 21),
+        ("too large, then another kind", &[TWO, SIXTEEN, TRUE], 21),
+        ("too large, then a choice", &[TWO, SIXTEEN, (7, 1, 0, 0)], 21),
+        ("at the bound, then too large", &[TWO, NINE, FOUR, LARGE, ONE, ONE, ONE], 22),
+        ("at the bound, then another kind", &[TWO, NINE, FOUR, TRUE], 22),
+        ("an element too large, then another kind", &[TWO, NINE, (7, 0, 2, 0), LARGE, TRUE], 21),
+        ("another kind, then too large", &[TWO, NINE, (7, 0, 2, 0), TRUE, LARGE], 16),
+        ("another count, then too large", &[(5, 0, 3, 0), SIXTEEN, EMPTY, ONE], 16),
+        ("an unused byte, then too large", &[(5, 0, 2, 1), SIXTEEN, EMPTY], 16),
+        ("another width, then at the bound", &[TWO, (2, 0, 8, 9), FOUR], 16),
+        ("missing", &[TWO, NINE, (7, 0, 3, 0), ONE, ONE], 16),
+        ("too large, then missing", &[TWO, SIXTEEN], 21),
+        ("an element too large, then missing", &[TWO, NINE, (7, 0, 3, 0), LARGE], 21),
+        ("at the bound, then missing", &[TWO, NINE, FOUR, ONE, ONE, ONE], 22),
+        ("left over", &[TWO, NINE, EMPTY, ONE], 16),
+        ("too large, then left over", &[TWO, SIXTEEN, EMPTY, ONE], 21),
+        ("at the bound, then left over", &[TWO, NINE, FOUR, ONE, ONE, ONE, ONE, ONE], 22),
+        ("below the bound, a fourth left over", &[TWO, NINE, (7, 0, 3, 0), ONE, ONE, ONE, ONE], 16),
+        ("left over and too large", &[TWO, NINE, EMPTY, SIXTEEN], 16),
+        ("left over and at the bound", &[TWO, NINE, EMPTY, FOUR], 16),
+    ];
+    for (name, value, number) in values {
+        e.bad_value(name, &ty(&PAIR), &val(value), 2, number);
+    }
+    let whole = ty(&PAIR);
+    let edits: [(&'static str, &[u8], &[u8], &[Record], u32); 9] = [
+        ("part 0 to 16", &[0x91, 0x80], &steps(&[0]), &[SIXTEEN], 21),
+        ("part 0 to a u1", &[0x91, 0x80], &steps(&[0]), &[LARGE], 16),
+        ("part 1 to four elements", &[0x91, 0x80], &steps(&[1]), &[FOUR, ONE, ONE, ONE, ONE], 22),
+        ("part 1 to an element too large", &[0x91, 0x80], &steps(&[1]), &[(7, 0, 1, 0), LARGE], 21),
+        ("part 1, 0 to 2", &[0x91, 0x80], &steps(&[1, 0]), &[LARGE], 21),
+        ("part 1, 0 to a list at the bound", &[0x91, 0x80], &steps(&[1, 0]), &[FOUR], 16),
+        ("no such part, too large", &[0x91, 0x80], &steps(&[1, 1]), &[LARGE], 14),
+        ("odd path, too large", &[0x91, 0x80], &[0], &[SIXTEEN], 13),
+        ("tail, too large", &[0x91, 0x81], &steps(&[0]), &[SIXTEEN], 12),
+    ];
+    for (name, frame, path, value, number) in edits {
+        e.bad(name, PartEdit, &[&whole, frame, path, &val(value)], number);
+    }
+    let cut = &val(&[TWO, SIXTEEN])[..71];
+    e.bad_value("too large, a length of 71", &whole, cut, 2, 15);
+}
+
+/// Rows 16, 21 and 22 under each kind, at each width and at some bounds.
+fn faults_of_kinds(e: &mut Edges) {
+    let large = (2, 0, 1, 2);
+    let kinds: [(&[(u8, u16)], Record); 7] = [
+        (&[(3, 0), (2, 1), (1, 0)], (3, 0, 0, 0)),
+        (&[(3, 0), (1, 0), (2, 1)], (3, 1, 0, 0)),
+        (&[(4, 0), (2, 1)], (4, 1, 0, 0)),
+        (&[(5, 1), (2, 1)], (5, 0, 1, 0)),
+        (&[(6, 1), (2, 1)], (6, 0, 1, 0)),
+        (&[(7, 2), (2, 1)], (7, 0, 1, 0)),
+        (&[(8, 2), (9, 0), (9, 1), (2, 1)], (8, 0, 1, 0)),
+    ];
+    for (records, (kind, choice, n, _)) in kinds {
+        let t = ty(records);
+        e.bad_value("too large under it", &t, &val(&[(kind, choice, n, 0), large]), 1, 21);
+        e.bad_value("an unused byte above", &t, &val(&[(kind, choice, n, 1), large]), 1, 16);
+        e.bad_value("no such choice above", &t, &val(&[(kind, 2, n, 0), large]), 1, 16);
+        e.bad_value("missing under it", &t, &val(&[(kind, choice, n, 0)]), 1, 16);
+    }
+    let variants = ty(&VARIANTS);
+    e.bad_value("a variant past the last", &variants, &val(&[(8, 0, 3, 0), large]), 1, 16);
+    e.bad_value("the last variant", &variants, &val(&[(8, 0, 2, 0), large, (1, 2, 0, 0)]), 1, 21);
+    let two = ty(&[(5, 2), (1, 0), (2, 1)]);
+    for (flag, number) in [((1, 1, 0, 0), 21), ((1, 2, 0, 0), 16), ((1, 0, 1, 0), 16), ((1, 0, 0, 1), 16)] {
+        e.bad_value("a Boolean before", &two, &val(&[(5, 0, 2, 0), flag, large]), 1, number);
+    }
+    for bits in [1, 2, 4, 8, 16, 32, 64, 128] {
+        let bytes = (bits as usize).div_ceil(8);
+        let t = ty(&[(2, bits)]);
+        let with = |at: usize, byte: u8| {
+            let mut value = val(&[(2, 0, bits, 0)]);
+            value[at] = byte;
+            value
+        };
+        let place = 35 - bits as usize / 8;
+        e.bad_value("2 to the width", &t, &with(place, 1 << (bits % 8)), bytes, 21);
+        e.bad_value("the highest bit", &t, &with(4, 0x80), bytes, 21);
+        let most = if bits < 8 { !(0xff >> bits) } else { 0xff };
+        let mut value = with(35, if bits < 8 { 0xff >> (8 - bits) } else { 0xff });
+        value[36 - bytes..35].fill(0xff);
+        e.good("one below", WriteFrame, &[&t, &value], &vec![most; bytes]);
+    }
+    let all = [&val(&[(2, 0, 256, 0)])[..4], &[0xff; 32]].concat();
+    e.good("the greatest of 256 bits", WriteFrame, &[&ty(&[(2, 256)]), &all], &[0xff; 32]);
+    for (bound, zeros) in [(2, 1), (4, 1), (256, 1), (16_384, 2)] {
+        let t = ty(&[(7, bound), UNIT]);
+        e.bad_value("at the bound", &t, &val(&[(7, 0, bound, 0)]), zeros, 22);
+        e.bad_value("one below the bound, missing", &t, &val(&[(7, 0, bound - 1, 0)]), zeros, 16);
+    }
 }
 
 /// Long arguments or results; they stand at the end of the recorded file.
@@ -280,6 +409,8 @@ pub fn edges() -> (Vec<Edge>, Vec<Edge>) {
     along_the_edges(&mut short);
     type_rows(&mut short);
     other_rows(&mut short);
+    faults_of_a_pair(&mut short);
+    faults_of_kinds(&mut short);
     let mut long = Edges(vec![]);
     long_ones(&mut long);
     (short.0, long.0)

@@ -6,7 +6,8 @@ use crate::case::Case;
 use crate::compare::Tally;
 use crate::expect::{Entry, Outcome};
 use crate::paths::follow;
-use crate::types::{check_lowering, read_type, Ty};
+use crate::spoil::all_spoiled;
+use crate::types::{check_lowering, read_type, write_type, Ty};
 use crate::values::{read_value, reconstruct, write_value};
 
 /// The records of the types: kind and n.
@@ -41,6 +42,8 @@ fn trees(most: usize) -> Vec<Vec<Vec<u8>>> {
 struct Run {
     tally: Tally,
     count: usize,
+    /// Paths and the part's types for which values with faults were tried, of one type.
+    tried: BTreeSet<(Vec<u8>, Vec<u8>)>,
 }
 
 impl Run {
@@ -76,7 +79,13 @@ impl Run {
             if let Some(Ok(frame)) = self.case(Entry::WriteFrame, &[file, value]) {
                 frames.insert(frame);
             }
+            let val = read_value(ty, value).expect("the value was read");
+            for bad in all_spoiled(ty, &val) {
+                self.case(Entry::WriteShape, &[file, &bad]);
+                self.case(Entry::WriteFrame, &[file, &bad]);
+            }
         }
+        self.tried.clear();
         for frame in all_frames(&frames) {
             if let Some(Ok(value)) = self.case(Entry::ReadFrame, &[file, &frame]) {
                 self.parts(file, ty, &frame, &value, shapes);
@@ -92,7 +101,11 @@ impl Run {
             let new: Vec<Vec<u8>> = match follow(ty, &whole, &path) {
                 Ok(part) => {
                     let all = shapes.iter().filter_map(|s| reconstruct(part.ty, s));
-                    all.take(MOST_NEW).map(|v| write_value(&v)).chain([value.to_vec()]).collect()
+                    let mut all: Vec<_> = all.take(MOST_NEW).map(|v| write_value(&v)).chain([value.to_vec()]).collect();
+                    if self.tried.insert((path.clone(), write_type(part.ty))) {
+                        all.extend(all_spoiled(part.ty, part.val));
+                    }
+                    all
                 }
                 Err(_) => vec![value.to_vec()],
             };
@@ -133,7 +146,7 @@ fn all_frames(frames: &BTreeSet<Vec<u8>>) -> BTreeSet<Vec<u8>> {
 /// Runs every type file of up to so many records with every shape of up to so many; true if nothing differs.
 pub fn exhaust(records: usize, nodes: usize) -> bool {
     let shapes = trees(nodes).concat();
-    let mut run = Run { tally: Tally::default(), count: 0 };
+    let mut run = Run { tally: Tally::default(), count: 0, tried: BTreeSet::new() };
     let mut files: Vec<Vec<u8>> = vec![vec![]];
     for _ in 0..records {
         let longer = files.iter().flat_map(|f| MENU.map(|(kind, n)| [&f[..], &[kind, 0, 0, n]].concat()));

@@ -1,5 +1,6 @@
-//! What each entry answers: the rows in 01's order, the published code where it decides, the second writer for frames.
+//! What each entry answers: the rows in the order of 01 and 02, the published code where it decides, the second writer for frames.
 
+use crate::first_fault;
 use crate::frames::{self, Lowered};
 use crate::paths::{self, follow, Part};
 use crate::rust;
@@ -50,8 +51,11 @@ impl Entry {
 /// A result, or the number of the row that refuses.
 pub type Outcome = Result<Vec<u8>, u32>;
 
+/// Every number is below this.
+pub const NUMBERS: usize = 23;
+
 /// What an entry answers with a buffer that is long enough.
-/// It panics where the published code and the plain one differ.
+/// It panics where the published code and the plain one differ, or the two that number a value file.
 pub fn outcome(entry: Entry, args: &[Vec<u8>]) -> Outcome {
     let ty = read_type(&args[0])?;
     if entry == Entry::Reconstruct {
@@ -61,8 +65,8 @@ pub fn outcome(entry: Entry, args: &[Vec<u8>]) -> Outcome {
     check_lowering(&ty)?;
     match entry {
         Entry::Lower => Ok(lowered(&ty)),
-        Entry::WriteShape => Ok(shaped(&ty, &read_value(&ty, &args[1])?)),
-        Entry::WriteFrame => Ok(framed(&ty, &read_value(&ty, &args[1])?)),
+        Entry::WriteShape => Ok(shaped(&ty, &valued(&ty, &args[1])?)),
+        Entry::WriteFrame => Ok(framed(&ty, &valued(&ty, &args[1])?)),
         Entry::ReadFrame => Ok(write_value(&unframed(&ty, &args[1])?)),
         Entry::PartRead => part_read(&ty, &args[1], &args[2]),
         _ => part_edit(&ty, &args[1], &args[2], &args[3]),
@@ -75,6 +79,14 @@ pub fn lowered(ty: &Ty) -> Vec<u8> {
     assert!(told == types::lower(ty), "lowered types differ");
     assert!(told.len() as u64 == types::size(ty), "sizes differ");
     told
+}
+
+/// The value of a file: rows 15, 16, 21 and 22. The number is told by the reader and by the list of all faults.
+pub fn valued(ty: &Ty, file: &[u8]) -> Result<Val, u32> {
+    let read = read_value(ty, file);
+    let (by_reader, by_list) = (read.as_ref().err().copied(), first_fault::number(ty, file));
+    assert!(by_reader == by_list, "numbers of a value file differ: read {by_reader:?}, listed {by_list:?}");
+    read
 }
 
 /// The shape, told by the published code.
@@ -124,13 +136,28 @@ fn stretch_of_file(part: &Part) -> std::ops::Range<usize> {
 fn part_edit(ty: &Ty, frame: &[u8], path: &[u8], new: &[u8]) -> Outcome {
     let old = unframed(ty, frame)?;
     let part = follow(ty, &old, path)?;
-    let new_val = read_value(part.ty, new)?;
+    let new_val = valued(part.ty, new)?;
     let mut file = write_value(&old);
     file.splice(stretch_of_file(&part), new.iter().copied());
-    let whole = read_value(ty, &file).expect("the replaced file is a value of the type");
+    let whole = valued(ty, &file).expect("the replaced file is a value of the type");
     let edited = framed(ty, &whole);
     check_stretch(&part, frame, &edited, &framed(part.ty, &new_val));
     Ok(edited)
+}
+
+/// The type that the value file of a case must be of, and the file. None where the case has none or an earlier row holds.
+pub fn value_file(entry: Entry, args: &[Vec<u8>]) -> Option<(Ty, Vec<u8>)> {
+    let ty = read_type(&args[0]).ok()?;
+    check_lowering(&ty).ok()?;
+    match entry {
+        Entry::WriteShape | Entry::WriteFrame => Some((ty, args[1].clone())),
+        Entry::PartEdit => {
+            let old = unframed(&ty, &args[1]).ok()?;
+            let part = follow(&ty, &old, &args[2]).ok()?;
+            Some((part.ty.clone(), args[3].clone()))
+        }
+        _ => None,
+    }
 }
 
 /// No bit outside the part's stretch changes, and the stretch is the part's own frame.

@@ -1,13 +1,15 @@
 //! Stands in for a faulty library, to see that the comparison finds each fault and shrinks it.
 
+use std::cmp::Reverse;
 use std::sync::atomic::{AtomicUsize, Ordering};
 
 use crate::case::{Answer, Case};
-use crate::expect::{outcome, Entry, Outcome};
+use crate::expect::{outcome, value_file, Entry, Outcome};
+use crate::first_fault::faults;
 use crate::types::{read_type, write_type, Ty};
 use crate::values::{read_value, write_value, Val};
 
-pub const FAULTS: [&str; 12] = [
+pub const FAULTS: [&str; 16] = [
     "no fault",
     "an exact buffer is too short",
     "a length is one too long",
@@ -20,6 +22,10 @@ pub const FAULTS: [&str; 12] = [
     "the depth is checked one level too late",
     "a row of the value comes before the frame's",
     "the last bit of a frame is lost",
+    "an integer that is too large is said to be of another type",
+    "the last fault of a value file decides",
+    "a list at its bound is said to be of another type",
+    "an integer is looked at before its record's choice and width",
 ];
 
 /// The fault at work; the first one is none.
@@ -66,7 +72,27 @@ pub fn answer(case: &Case) -> Answer {
             *frame.last_mut().unwrap() &= 0xfe;
             case.delivered(Ok(frame))
         }
+        12 if right == Err(21) => case.delivered(Err(16)),
+        13..=15 if matches!(right, Err(16 | 21 | 22)) => case.delivered(misnumbered(case, fault).map_or(right, Err)),
         _ => answer,
+    }
+}
+
+/// The number that one of the last faults gives to a refused value file, where it matters.
+fn misnumbered(case: &Case, fault: usize) -> Option<u32> {
+    let (ty, mut file) = value_file(case.entry, &case.args)?;
+    let all = faults(&ty, &file);
+    let first = *all.iter().min()?;
+    match fault {
+        13 => all.iter().max_by_key(|f| (f.place, Reverse(f.number))).map(|f| f.number),
+        14 if first.number == 22 => {
+            let n = &mut file[36 * first.place + 2..][..2];
+            let fewer = u16::from_be_bytes([n[0], n[1]]) - 1;
+            n.copy_from_slice(&fewer.to_be_bytes());
+            (!faults(&ty, &file).contains(&first)).then_some(16)
+        }
+        15 => all.iter().find(|f| f.place == first.place && f.number == 21).map(|f| f.number),
+        _ => None,
     }
 }
 

@@ -5,10 +5,11 @@ use crate::expect::{Entry, Outcome, ENTRIES};
 use crate::frames::{self, Lowered};
 use crate::paths::follow;
 use crate::random::Random;
+use crate::spoil::spoiled;
 use crate::types::{check_lowering, lower, size, write_type, Ty};
 use crate::values::{shape, shape_over, write_value, Val};
 
-const BITS: [usize; 9] = [1, 2, 4, 8, 16, 32, 64, 128, 256];
+pub const BITS: [usize; 9] = [1, 2, 4, 8, 16, 32, 64, 128, 256];
 
 /// How large a case may grow.
 #[derive(Clone, Copy, PartialEq)]
@@ -430,7 +431,8 @@ pub fn random_path(r: &mut Random, val: &Val) -> Vec<u8> {
     let mut at = val;
     loop {
         let children = at.children();
-        if children.is_empty() || r.percent(8) {
+        let stop = if matches!(at, Val::List(_)) { 40 } else { 10 };
+        if children.is_empty() || r.percent(stop) {
             return path;
         }
         let number = match r.below(3) {
@@ -447,14 +449,14 @@ pub fn random_path(r: &mut Random, val: &Val) -> Vec<u8> {
     }
 }
 
-/// A value for an edit: of the part's type, or else of another.
-fn random_new(r: &mut Random, ty: &Ty, val: Option<&Val>, path: &[u8], scale: Scale) -> Vec<u8> {
+/// A value for an edit, with its type: the part's, or else another.
+fn random_new(r: &mut Random, ty: &Ty, val: Option<&Val>, path: &[u8], scale: Scale) -> Option<(Ty, Val)> {
     let part = val.and_then(|val| follow(ty, val, path).ok());
-    let new = match part {
-        Some(part) if r.percent(92) => value_of(r, part.ty, scale),
-        _ => value_of(r, ty, scale),
+    let ty = match part {
+        Some(part) if r.percent(92) => part.ty,
+        _ => ty,
     };
-    new.map(|v| write_value(&v)).unwrap_or_else(|| random_bytes(r, 72))
+    value_of(r, ty, scale).map(|val| (ty.clone(), val))
 }
 
 // Damage
@@ -552,10 +554,20 @@ fn damage_path(r: &mut Random, bytes: &mut Vec<u8>) {
     }
 }
 
-fn damage_argument(r: &mut Random, name: &str, bytes: &mut Vec<u8>) {
+/// Changes a value's file: as any file, or anew with faults on purpose.
+fn damage_value(r: &mut Random, bytes: &mut Vec<u8>, value: Option<&(Ty, Val)>) {
+    let on_purpose = r.percent(75);
+    let value = value.filter(|_| on_purpose);
+    match value.and_then(|(ty, val)| spoiled(r, ty, val)) {
+        Some(file) => *bytes = file,
+        None => damage(r, bytes, 36),
+    }
+}
+
+fn damage_argument(r: &mut Random, name: &str, bytes: &mut Vec<u8>, value: Option<&(Ty, Val)>) {
     match name {
         "type" => damage(r, bytes, 4),
-        "value" => damage(r, bytes, 36),
+        "value" => damage_value(r, bytes, value),
         "shape" => damage_shape(r, bytes),
         "frame" => damage_frame(r, bytes),
         _ => damage_path(r, bytes),
@@ -564,34 +576,36 @@ fn damage_argument(r: &mut Random, name: &str, bytes: &mut Vec<u8>) {
 
 // Cases
 
-fn sound_arguments(r: &mut Random, entry: Entry, scale: Scale) -> Vec<Vec<u8>> {
+/// The arguments, and the value of the value file with its type, if there is one.
+fn sound_arguments(r: &mut Random, entry: Entry, scale: Scale) -> (Vec<Vec<u8>>, Option<(Ty, Val)>) {
     let ty = random_type(r, entry, scale);
     let file = write_type(&ty);
     if entry == Entry::Lower {
-        return vec![file];
+        return (vec![file], None);
     }
     // Sometimes the rest is made for another type.
     let ty = if r.percent(10) { near(r, &ty) } else { ty };
     let val = value_of(r, &ty, scale);
-    let val = val.as_ref();
+    let mut args = vec![file];
     match entry {
-        Entry::Reconstruct => vec![file, random_shape(r, &ty, val, scale)],
+        Entry::Reconstruct => args.push(random_shape(r, &ty, val.as_ref(), scale)),
         Entry::WriteShape | Entry::WriteFrame => {
-            let value = val.map(write_value).unwrap_or_else(|| random_bytes(r, 80));
-            vec![file, value]
+            args.push(val.as_ref().map(write_value).unwrap_or_else(|| random_bytes(r, 80)));
+            return (args, val.map(|val| (ty, val)));
         }
-        Entry::ReadFrame => vec![file, random_frame(r, &ty, val)],
+        Entry::ReadFrame => args.push(random_frame(r, &ty, val.as_ref())),
         _ => {
-            let frame = random_frame(r, &ty, val);
-            let path = val.map(|v| random_path(r, v)).unwrap_or_default();
-            if entry == Entry::PartRead {
-                return vec![file, frame, path];
-            }
-            let val = if check_lowering(&ty).is_ok() { val } else { None };
-            let new = random_new(r, &ty, val, &path, scale);
-            vec![file, frame, path, new]
+            args.push(random_frame(r, &ty, val.as_ref()));
+            args.push(val.as_ref().map(|v| random_path(r, v)).unwrap_or_default());
         }
     }
+    if entry != Entry::PartEdit {
+        return (args, None);
+    }
+    let val = val.filter(|_| check_lowering(&ty).is_ok());
+    let new = random_new(r, &ty, val.as_ref(), &args[2], scale);
+    args.push(new.as_ref().map(|(_, v)| write_value(v)).unwrap_or_else(|| random_bytes(r, 72)));
+    (args, new)
 }
 
 /// A case of any entry, without its buffer's length.
@@ -601,17 +615,19 @@ pub fn random_case(r: &mut Random, scale: Scale) -> Case {
 }
 
 pub fn random_case_of(r: &mut Random, entry: Entry, scale: Scale) -> Case {
-    let mut args = sound_arguments(r, entry, scale);
+    let (mut args, value) = sound_arguments(r, entry, scale);
+    let value = value.as_ref();
     if r.percent(45) {
-        let which = r.below(args.len());
+        let last = entry == Entry::PartEdit && r.percent(35);
+        let which = if last { args.len() - 1 } else { r.below(args.len()) };
         for _ in 0..r.pick(&[1, 1, 1, 2]) {
-            damage_argument(r, entry.arguments()[which], &mut args[which]);
+            damage_argument(r, entry.arguments()[which], &mut args[which], value);
         }
         // Sometimes others are bad as well: the earlier row refuses.
         if r.percent(30) {
             for (name, arg) in entry.arguments().iter().zip(&mut args).skip(1) {
                 if r.percent(60) {
-                    damage_argument(r, name, arg);
+                    damage_argument(r, name, arg, value);
                 }
             }
         }

@@ -6,6 +6,7 @@ use crate::expect::{framed, Entry, Outcome, ENTRIES};
 use crate::generate::{random_path, random_value};
 use crate::paths::follow;
 use crate::random::Random;
+use crate::spoil::spoiled;
 use crate::types::{check_lowering, write_type, Ty};
 use crate::values::{shape, write_value, Val};
 
@@ -62,6 +63,16 @@ fn arguments(r: &mut Random, entry: Entry, ty: &Ty, val: &Val) -> Vec<Vec<u8>> {
     }
 }
 
+/// Arguments with faults in the value file, where the entry has one; an edit is of the whole.
+fn bad_arguments(r: &mut Random, entry: Entry, ty: &Ty, val: &Val) -> Option<Vec<Vec<u8>>> {
+    let file = write_type(ty);
+    match entry {
+        Entry::WriteShape | Entry::WriteFrame => Some(vec![file, spoiled(r, ty, val)?]),
+        Entry::PartEdit => Some(vec![file, framed(ty, val), vec![], spoiled(r, ty, val)?]),
+        _ => None,
+    }
+}
+
 /// Runs every entry on values of the large types; true if nothing differs.
 pub fn giants(seed: u64) -> bool {
     let mut r = Random::new(seed);
@@ -71,11 +82,13 @@ pub fn giants(seed: u64) -> bool {
         for _ in 0..VALUES {
             let val = random_value(&mut r, &ty, &mut MOST.clone()).expect("the type has a value");
             for entry in ENTRIES {
-                let args = arguments(&mut r, entry, &ty, &val);
-                let mut case = Case { entry, args, room: 0, fill: r.byte(), plain_fill: false };
-                let short = r.percent(20) as usize;
-                let room = |outcome: &Outcome| outcome.as_ref().map_or(9, |result| result.len().saturating_sub(short));
-                tally.run(&mut case, room, None);
+                let sound = arguments(&mut r, entry, &ty, &val);
+                for args in [Some(sound), bad_arguments(&mut r, entry, &ty, &val)].into_iter().flatten() {
+                    let mut case = Case { entry, args, room: 0, fill: r.byte(), plain_fill: false };
+                    let short = r.percent(20) as usize;
+                    let room = |told: &Outcome| told.as_ref().map_or(9, |result| result.len().saturating_sub(short));
+                    tally.run(&mut case, room, None);
+                }
             }
         }
     }

@@ -5,7 +5,7 @@ use std::collections::HashSet;
 use crate::case::{hex, Answer, Case};
 use crate::compare::{compare_with, expected_outcome};
 use crate::edges::{edges, Edge};
-use crate::expect::ENTRIES;
+use crate::expect::{ENTRIES, NUMBERS};
 use crate::generate::{random_case, random_room, Scale};
 use crate::random::Random;
 
@@ -77,7 +77,7 @@ pub fn record(file: &str, seed: u64, count: usize) -> bool {
     let mut cases: Vec<Vec<u8>> = short.iter().map(recorded_edge).collect();
     let mut size = 0;
     let mut seen = HashSet::new();
-    let mut taken = [[0; 18]; 8];
+    let mut taken = [[0; NUMBERS]; 8];
     let mut r = Random::new(seed);
     let mut left = count;
     let mut tries = 0;
@@ -93,7 +93,7 @@ pub fn record(file: &str, seed: u64, count: usize) -> bool {
         let answer = case.delivered(outcome);
         let number = &mut taken[case.entry as usize][answer.number as usize];
         // What is common stays out while what is rare is still missing; long cases are rarer.
-        let share = if answer.number == 0 { count / 14 } else { count / 100 };
+        let share = if answer.number == 0 { count / 14 } else { count / 120 };
         let bytes = recorded(&case, &answer);
         if *number >= ENOUGH.max(share) || (bytes.len() > 750 && !r.percent(15)) || !seen.insert(bytes.clone()) {
             continue;
@@ -105,7 +105,7 @@ pub fn record(file: &str, seed: u64, count: usize) -> bool {
     }
     cases.extend(long.iter().map(recorded_edge));
     for entry in ENTRIES {
-        let numbers = (0..18).filter(|&n| taken[entry as usize][n] > 0);
+        let numbers = (0..NUMBERS).filter(|&n| taken[entry as usize][n] > 0);
         let numbers: Vec<String> = numbers.map(|n| format!("{n}:{}", taken[entry as usize][n])).collect();
         println!("{}: random cases {}", entry.name(), numbers.join(" "));
     }

@@ -56,20 +56,27 @@ fn put_final(ty: &Final, out: &mut Vec<u8>) {
     put_final(r, out);
 }
 
-fn integer(bits: usize, bytes: &[u8; 32]) -> UIntValue {
-    match bits {
-        1 => UIntValue::u1(bytes[31]).unwrap(),
-        2 => UIntValue::u2(bytes[31]).unwrap(),
-        4 => UIntValue::u4(bytes[31]).unwrap(),
-        _ => UIntValue::try_from(&bytes[32 - bits / 8..]).unwrap(),
-    }
+/// The published integer of a width, if its constructor takes it and it comes back as these bytes.
+fn integer(bits: usize, bytes: &[u8; 32]) -> Option<UIntValue> {
+    let made = match bits {
+        1 => UIntValue::u1(bytes[31]).ok()?,
+        2 => UIntValue::u2(bytes[31]).ok()?,
+        4 => UIntValue::u4(bytes[31]).ok()?,
+        _ => UIntValue::try_from(&bytes[32 - bits / 8..]).ok()?,
+    };
+    (integer_bytes(&made) == (bits, *bytes)).then_some(made)
+}
+
+/// Has the published code an integer of this width with these bytes?
+pub fn has_integer(bits: usize, bytes: &[u8; 32]) -> bool {
+    integer(bits, bytes).is_some()
 }
 
 /// The published form of a value of a type.
 pub fn value(ty: &Ty, val: &Val) -> Value {
     match (ty, val) {
         (_, Val::Bool(bit)) => Value::from(*bit),
-        (_, Val::UInt(bits, bytes)) => Value::from(integer(*bits, bytes)),
+        (_, Val::UInt(bits, bytes)) => Value::from(integer(*bits, bytes).expect("the integer fits its width")),
         (Ty::Either(l, r), Val::Either(false, v)) => Value::left(value(l, v), resolved(r)),
         (Ty::Either(l, r), Val::Either(true, v)) => Value::right(resolved(l), value(r, v)),
         (Ty::Option(t), Val::Option(None)) => Value::none(resolved(t)),

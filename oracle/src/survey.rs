@@ -1,9 +1,10 @@
-//! Counts what the random cases reach among the accepted ones.
+//! Counts what the random cases reach among the accepted ones, and which faults meet in value files.
 
 use std::collections::BTreeMap;
 
 use crate::case::Case;
-use crate::expect::{outcome, Entry};
+use crate::expect::{outcome, value_file, Entry};
+use crate::first_fault::faults;
 use crate::generate::{random_case, Scale};
 use crate::random::Random;
 use crate::types::{check_lowering, read_type, size, Ty};
@@ -64,14 +65,34 @@ fn features(case: &Case, ty: &Ty, result: &[u8]) -> Vec<String> {
     all
 }
 
+/// How the fault that decides on a value file meets the others.
+fn meetings(case: &Case) -> Vec<String> {
+    let Some((ty, file)) = value_file(case.entry, &case.args) else { return vec![] };
+    let mut all = faults(&ty, &file);
+    all.sort();
+    let Some((first, others)) = all.split_first() else { return vec![] };
+    let mut met = vec![format!("fault {}", first.number)];
+    for other in others {
+        let place = match other.place {
+            place if place == first.place => "beside",
+            place if place == file.len() / 36 => "before the end,",
+            _ => "before",
+        };
+        met.push(format!("fault {} {place} {}", first.number, other.number));
+    }
+    met
+}
+
 pub fn survey(seed: u64, count: u64) -> bool {
     let mut r = Random::new(seed);
     let mut reached: BTreeMap<String, u64> = BTreeMap::new();
     for _ in 0..count {
         let case = random_case(&mut r, Scale::Any);
-        let Ok(result) = outcome(case.entry, &case.args) else { continue };
-        let ty = read_type(&case.args[0]).expect("the case is accepted");
-        let mut all = features(&case, &ty, &result);
+        let mut all = match outcome(case.entry, &case.args) {
+            Ok(result) => features(&case, &read_type(&case.args[0]).expect("the case is accepted"), &result),
+            Err(16 | 21 | 22) => meetings(&case),
+            Err(_) => continue,
+        };
         all.sort();
         all.dedup();
         for name in all {

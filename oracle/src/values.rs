@@ -31,21 +31,23 @@ impl Val {
     }
 }
 
-/// Reads a value file of a type: rows 15 and 16.
+/// Reads a value file of a type: rows 15, 16, 21 and 22. The first fault decides, in the order of the records.
 pub fn read_value(ty: &Ty, file: &[u8]) -> Result<Val, u32> {
     if file.is_empty() || file.len() % 36 != 0 {
         return Err(15);
     }
     let mut rest = file;
-    match take_value(ty, &mut rest) {
-        Some(val) if rest.is_empty() => Ok(val),
-        _ => Err(16),
+    let val = take_value(ty, &mut rest)?;
+    if rest.is_empty() {
+        Ok(val)
+    } else {
+        Err(16)
     }
 }
 
-fn take_value(ty: &Ty, rest: &mut &[u8]) -> Option<Val> {
+fn take_value(ty: &Ty, rest: &mut &[u8]) -> Result<Val, u32> {
     if rest.is_empty() {
-        return None;
+        return Err(16);
     }
     let (record, after) = rest.split_at(36);
     *rest = after;
@@ -55,33 +57,43 @@ fn take_value(ty: &Ty, rest: &mut &[u8]) -> Option<Val> {
     let no_n = n == 0;
     let no_integer = integer == [0; 32];
     match (ty, record[0]) {
-        (Ty::Bool, 1) if choice < 2 && no_n && no_integer => Some(Val::Bool(choice == 1)),
-        (Ty::UInt(bits), 2) if choice == 0 && n == *bits && below(&integer, *bits) => Some(Val::UInt(n, integer)),
+        (Ty::Bool, 1) if choice < 2 && no_n && no_integer => Ok(Val::Bool(choice == 1)),
+        (Ty::UInt(bits), 2) if choice == 0 && n == *bits => {
+            if below(&integer, *bits) {
+                Ok(Val::UInt(n, integer))
+            } else {
+                Err(21)
+            }
+        }
         (Ty::Either(l, r), 3) if choice < 2 && no_n && no_integer => {
             let side = if choice == 0 { l } else { r };
-            Some(Val::Either(choice == 1, Box::new(take_value(side, rest)?)))
+            Ok(Val::Either(choice == 1, Box::new(take_value(side, rest)?)))
         }
-        (Ty::Option(_), 4) if choice == 0 && no_n && no_integer => Some(Val::Option(None)),
+        (Ty::Option(_), 4) if choice == 0 && no_n && no_integer => Ok(Val::Option(None)),
         (Ty::Option(t), 4) if choice == 1 && no_n && no_integer => {
-            Some(Val::Option(Some(Box::new(take_value(t, rest)?))))
+            Ok(Val::Option(Some(Box::new(take_value(t, rest)?))))
         }
         (Ty::Tuple(parts), 5) if choice == 0 && n == parts.len() && no_integer => {
-            Some(Val::Tuple(take_values(parts.iter(), rest)?))
+            Ok(Val::Tuple(take_values(parts.iter(), rest)?))
         }
         (Ty::Array(size, t), 6) if choice == 0 && n == *size && no_integer => {
-            Some(Val::Array(take_values(std::iter::repeat(&**t).take(n), rest)?))
+            Ok(Val::Array(take_values(std::iter::repeat(&**t).take(n), rest)?))
         }
-        (Ty::List(bound, t), 7) if choice == 0 && n < *bound && no_integer => {
-            Some(Val::List(take_values(std::iter::repeat(&**t).take(n), rest)?))
+        (Ty::List(bound, t), 7) if choice == 0 && no_integer => {
+            if n < *bound {
+                Ok(Val::List(take_values(std::iter::repeat(&**t).take(n), rest)?))
+            } else {
+                Err(22)
+            }
         }
         (Ty::Enum(variants), 8) if choice == 0 && n < variants.len() && no_integer => {
-            Some(Val::Enum(n, take_values(variants[n].iter(), rest)?))
+            Ok(Val::Enum(n, take_values(variants[n].iter(), rest)?))
         }
-        _ => None,
+        _ => Err(16),
     }
 }
 
-fn take_values<'a>(types: impl Iterator<Item = &'a Ty>, rest: &mut &[u8]) -> Option<Vec<Val>> {
+fn take_values<'a>(types: impl Iterator<Item = &'a Ty>, rest: &mut &[u8]) -> Result<Vec<Val>, u32> {
     types.map(|t| take_value(t, rest)).collect()
 }
 
@@ -104,6 +116,12 @@ pub fn put_value_record(kind: u8, choice: u8, n: usize, integer: &[u8; 32], out:
 }
 
 fn put_value(val: &Val, out: &mut Vec<u8>) {
+    put_first_record(val, out);
+    val.children().into_iter().for_each(|v| put_value(v, out));
+}
+
+/// The first record of a value's file.
+pub fn put_first_record(val: &Val, out: &mut Vec<u8>) {
     let none = &[0; 32];
     match val {
         Val::Bool(bit) => put_value_record(1, *bit as u8, 0, none, out),
@@ -115,7 +133,6 @@ fn put_value(val: &Val, out: &mut Vec<u8>) {
         Val::List(all) => put_value_record(7, 0, all.len(), none, out),
         Val::Enum(index, _) => put_value_record(8, 0, *index, none, out),
     }
-    val.children().into_iter().for_each(|v| put_value(v, out));
 }
 
 /// What a shape holds where no one looks: under an empty tuple, an array of 0, a variant without parts.

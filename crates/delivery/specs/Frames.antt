@@ -1,4 +1,4 @@
--- What `write_frame` knows at each of its answers: rows 1 to 7 and the table as `lower`, rows 15 and 16 as `write_shape`, and the frame's length by the table's width.
+-- What `write_frame` knows at each of its answers: rows 1 to 7 and the table as `lower`, rows 15, 16, 21 and 22 as `write_shape`, and the frame's length by the table's width.
 use mathlib.Core.Path.{_≡_, refl, sym, ap, _∙_}
 use mathlib.Core.List.{List}
 use Prim.Native.Nat.{ℕ, _+_, _/_, _<_, _≤_}

@@ -1,4 +1,4 @@
--- What `write_shape` knows at each of its answers: rows 1 to 7 and the table as `lower`, then rows 15 and 16 and the shape's length.
+-- What `write_shape` knows at each of its answers: rows 1 to 7 and the table as `lower`, then rows 15, 16, 21 and 22 and the shape's length.
 use mathlib.Core.Path.{_≡_, refl, sym, _∙_}
 use mathlib.Core.List.{List}
 use Prim.Native.Nat.{ℕ, _<_, _≤_}

@@ -7,7 +7,7 @@ use native.Mathlib.Omega.{arith}
 use lib.Dec.{eqb}
 use lib.ListN.{length}
 use Rattle.model.specs.Numbers.{value-length, not-one-value}
-use Rattle.model.specs.Outcome.{Outcome, done, refused, _>>=_, or-refuse, all-read}
+use Rattle.model.specs.Outcome.{Outcome, done, refused, _>>=_, all-read}
 use Rattle.model.specs.Types.{Ty}
 use Rattle.model.specs.Values.{Value, Valid, inject}
 use Rattle.model.specs.ShapeFiles.{shape-file}
@@ -58,7 +58,7 @@ module _ (t : Ty) (val : List ℕ) {c : Checked} (k : c ≡ file-answer t val) w
   answers : (value-of t val >>= λ v. done (cut-length v)) ≡ outcome-of c
   answers = value-of-is t val ∙ ap outcome-of (sym k)
 
-  -- rows 15 and 16
+  -- rows 15, 16, 21 and 22
   pub value-refused : {x : Refusal} → c ≡ Bad x → value-of t val ≡ refused (refusalNumber x)
   value-refused {x} h = was-refused cut-length (value-of t val) (refusalNumber x) (answers ∙ ap outcome-of h)
 
@@ -70,5 +70,5 @@ module _ (t : Ty) (val : List ℕ) {c : Checked} (k : c ≡ file-answer t val) w
 pub value-valid : (t : Ty) (val : List ℕ) (v : Value t) → value-of t val ≡ done v → Valid t v
 unfolding value-of
 value-valid t val v h =
-    let (_, q) = refuse-step value-length (eqb (length val) 0 || not (eqb (length val % 36) 0)) (or-refuse not-one-value (parse t (rows val)) >>= all-read not-one-value) v h in
+    let (_, q) = refuse-step value-length (eqb (length val) 0 || not (eqb (length val % 36) 0)) (parse t (rows val) >>= all-read not-one-value) v h in
     parse-sound t (rows val) (v, []) (whole-read not-one-value (parse t (rows val)) v q) .valid

@@ -65,7 +65,7 @@ module _ {s E fr path : List ℕ} {o : Opened s E fr} {p d b : ℕ} (a : Arrived
   checked : c ≡ file-answer own val
   checked = k ∙ ap (λ t. file-answer t val) (a .holding .same)
 
-  -- rows 15 and 16
+  -- rows 15, 16, 21 and 22
   pub edit-bad-value : {x : Refusal} → c ≡ Bad x → Delivers (edited after s fr path val) fr fr (reply.Refused x)
   unfolding edited
   edit-bad-value {x} h = deliver-refusal (edited after s fr path val) fr x (rw (o .lowers, o .reads, a .even, a .stands .leads, value-refused own val checked h) refl)

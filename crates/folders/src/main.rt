@@ -1,5 +1,5 @@
-// Puts folders through the function that `job` prints by, one after the other: a value that is refused, a type that does not lower, a file that is too long,
-// a file that is missing, a type of width 0, four hits in a list bounded at eight.
+// Puts folders through the function that `job` prints by, one after the other: eight hits in a list bounded at eight, a number too large for
+// its width, a value of another type, a type that does not lower, a file that is too long, a file that is missing, a type of width 0, four hits in a list bounded at eight.
 use files::read_file;
 use libc::STDOUT_FILENO;
 use report::report;
@@ -15,7 +15,9 @@ fn show(type_path: &[u8], value_path: &[u8]) {
 }
 
 fn main() {
-    show(b"refused/job.typ", b"refused/job.val");
+    show(b"eight-hits/job.typ", b"eight-hits/job.val");
+    show(b"mistyped/job.typ", b"mistyped/job.val");
+    show(b"other-type/job.typ", b"other-type/job.val");
     show(b"never/job.typ", b"never/job.val");
     show(b"long-type/job.typ", b"long-type/job.val");
     show(b"long-value/job.typ", b"long-value/job.val");

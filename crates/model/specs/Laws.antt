@@ -12,6 +12,7 @@ pub mod Frames
 pub mod ShapeFiles
 pub mod Valid
 pub mod ValueFiles
+pub mod Faults
 pub mod FrameFiles
 pub mod Sizes
 pub mod Places

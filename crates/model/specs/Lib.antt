@@ -12,6 +12,7 @@ pub mod Values
 pub mod Reconstruct
 pub mod ShapeFiles
 pub mod ValueFiles
+pub mod Faults
 pub mod Frames
 pub mod Paths
 pub mod Parts

@@ -1,4 +1,4 @@
--- The numbers of 01's table, 'Numbers by the place of the check', by name and in its order.
+-- The numbers of 01's table, 'Numbers by the place of the check', with those of 02 in their places, by name and in its order.
 use Prim.Native.Nat.{ℕ}
 
 -- TYPE
@@ -76,6 +76,14 @@ value-length = 15
 -- not one value of the type (for an edit, the part's)
 abbrev pub not-one-value : ℕ
 not-one-value = 16
+
+-- in the place of 16 (R-7), at the record whose fault comes earliest in the file and after all else of that record: an integer too large for its width
+abbrev pub integer-too-large : ℕ
+integer-too-large = 21
+
+-- likewise in the place of 16: a list length at or above the bound
+abbrev pub list-too-long : ℕ
+list-too-long = 22
 
 -- RESULT
 

@@ -1,4 +1,4 @@
--- What an operation gives: a result, or the number of the first row of 01's table that holds.
+-- What an operation gives: a result, or the number of the first row of the table (01, with 02's numbers) that holds.
 -- An operation is a chain of steps in the order of its rows: what stands first refuses first.
 use mathlib.Core.Bool.{Bool, true, false}
 use mathlib.Core.List.{List, [], _∷_}

@@ -8,7 +8,7 @@ use Prim.Native.Nat.{ℕ, zero, suc, _+_, _-_, _*_, _%_}
 use lib.Dec.{eqb}
 use lib.ListN.{length, take, drop}
 use Rattle.model.specs.Numbers.{path-odd}
-use Rattle.model.specs.Outcome.{Outcome, done, _>>=_, _>>_, refuse}
+use Rattle.model.specs.Outcome.{Outcome, done, refused, _>>=_, _>>_, refuse}
 use Rattle.model.specs.Options.{when, mapO, bindO}
 use Rattle.model.specs.Bytes.{records, two-at}
 use Rattle.model.specs.Types.{Ty, Tys, Variants, never, bool, uint, either, option, tuple, array, list, enum, nil, cons, last, more}
@@ -22,7 +22,7 @@ steps path = do
 
 -- the records that one value of the type takes at the front
 unfoldable pub span : Ty → List Rec → ℕ
-span t rs = elim (parse t rs) [ none ↦ 0 | some x ↦ length rs - length (x .1) ]
+span t rs = elim (parse t rs) [ done x ↦ length rs - length (x .1) | refused n ↦ 0 ]
 
 -- ONE STEP: the child's type, and the records passed over
 

@@ -3,7 +3,6 @@
 use mathlib.Core.Path.{_≡_, refl, sym, ap, _∙_}
 use mathlib.Core.Bool.{Bool, true, false}
 use mathlib.Core.List.{List, _++_}
-use mathlib.Core.Logic.{_⊎_, inl, inr}
 use Prim.Native.Nat.{ℕ, _≤_, _<_}
 use native.Mathlib.Omega.{arith}
 use lib.Dec.{ltb}
@@ -20,7 +19,7 @@ use Rattle.model.specs.ValueFiles.{value-of}
 use Rattle.model.specs.Operations.{lowering, shaped, reconstructed, framed, unframed, delivered}
 use Rattle.model.specs.Conditions.{ShapeBelongs, FrameAccepted}
 use Rattle.model.specs.Laws.Outcome.{done-injective}
-use Rattle.model.specs.Laws.Numbered.{Rows, shaped-row, reconstructed-row, framed-row, unframed-row}
+use Rattle.model.specs.Laws.Numbered.{never-zero, shaped-row, reconstructed-row, framed-row, unframed-row}
 use Rattle.model.specs.Laws.Demands.{OneValue, value-has-shape, value-has-frame, shape-reads-back, belonging-shape-reads, frame-reads-back, accepted-frame-reads, frame-accepted}
 use Rattle.model.specs.Calls.{WriteShape, Reconstruct, WriteFrame, ReadFrame}
 
@@ -93,11 +92,6 @@ accepted o rows before len left h = go o refl
 returns : (one other : List ℕ → Outcome (List ℕ)) (file : List ℕ) → ((m : ℕ) → one file ≡ refused m → 1 ≤ m) → ((x : List ℕ) → one file ≡ done x → other x ≡ done file) → Returns (calls one) (calls other) file
 returns one other file rows back before len left h = makes other (take len left) file (back (take len left) (accepted (one file) rows before len left h))
 
--- the table has no row 0
-no-zero : {j h k m : ℕ} → 1 ≤ h → Rows 1 j m ⊎ Rows h k m → 1 ≤ m
-no-zero l (inl r) = r .0
-no-zero l (inr r) = omega (arith, r .0)
-
 -- what is read is the one value, which writes the file again
 again : {reads writes : List ℕ → Outcome (List ℕ)} {file : List ℕ} → OneValue reads writes file → (x : List ℕ) → reads file ≡ done x → writes x ≡ done file
 again {writes = writes} r x e = ap writes (done-injective x (r .val) (sym e ∙ r .read)) ∙ r .back
@@ -111,7 +105,7 @@ module _ (ty : List ℕ) (b : Bytes ty) where
 
   -- what a call of `write_shape` left, a call of `reconstruct` turns into the value file it came from
   pub shape-returns : (val : List ℕ) → Bytes val → Returns (WriteShape ty) (Reconstruct ty) val
-  shape-returns val c = returns (shaped ty) (reconstructed ty) val (λ m e. no-zero (omega arith) (shaped-row ty val m e)) (λ shape e. shape-reads-back ty b val shape c e)
+  shape-returns val c = returns (shaped ty) (reconstructed ty) val (never-zero (shaped-row ty val) refl) (λ shape e. shape-reads-back ty b val shape c e)
 
   -- of a shape that belongs to the type, every call of `reconstruct` makes one value file
   pub shape-taken : (shape : List ℕ) → ShapeBelongs ty shape → (val : List ℕ) × Makes (Reconstruct ty) shape val
@@ -119,7 +113,7 @@ module _ (ty : List ℕ) (b : Bytes ty) where
 
   -- and what a call of `reconstruct` left of it, a call of `write_shape` writes to that shape again
   pub value-returns : (shape : List ℕ) → ShapeBelongs ty shape → Returns (Reconstruct ty) (WriteShape ty) shape
-  value-returns shape s = returns (reconstructed ty) (shaped ty) shape (λ m e. no-zero (omega arith) (reconstructed-row ty shape m e)) (again (belonging-shape-reads ty b shape s))
+  value-returns shape s = returns (reconstructed ty) (shaped ty) shape (never-zero (reconstructed-row ty shape) refl) (again (belonging-shape-reads ty b shape s))
 
   -- likewise every call of `write_frame` one frame, which is accepted for the type
   pub value-framed : (t : Ty) → lowering ty ≡ done t → (val : List ℕ) (v : Value t) → value-of t val ≡ done v → Bytes val → (frame : List ℕ) × Makes (WriteFrame ty) val frame × FrameAccepted after ty frame
@@ -127,7 +121,7 @@ module _ (ty : List ℕ) (b : Bytes ty) where
 
   -- what a call of `write_frame` left, a call of `read_frame` turns into the value file it came from
   pub frame-returns : (val : List ℕ) → Bytes val → Returns (WriteFrame ty) (ReadFrame ty) val
-  frame-returns val c = returns (framed after ty) (unframed after ty) val (λ m e. no-zero (omega arith) (framed-row after ty val m e)) (λ frame e. frame-reads-back ty b after val frame c e)
+  frame-returns val c = returns (framed after ty) (unframed after ty) val (never-zero (framed-row after ty val) refl) (λ frame e. frame-reads-back ty b after val frame c e)
 
   -- of a frame of the type, every call of `read_frame` makes one value file
   pub frame-taken : (frame : List ℕ) → Bytes frame → FrameAccepted after ty frame → (val : List ℕ) × Makes (ReadFrame ty) frame val
@@ -135,4 +129,4 @@ module _ (ty : List ℕ) (b : Bytes ty) where
 
   -- and what an accepted call of `read_frame` left, whatever the frame, a call of `write_frame` writes to that frame again
   pub frame-again : (frame : List ℕ) → Bytes frame → Returns (ReadFrame ty) (WriteFrame ty) frame
-  frame-again frame c = returns (unframed after ty) (framed after ty) frame (λ m e. no-zero (omega arith) (unframed-row after ty frame m e)) (λ val e. again (accepted-frame-reads ty b after frame c (frame-accepted ty b after frame c .0 (val, e))) val e)
+  frame-again frame c = returns (unframed after ty) (framed after ty) frame (never-zero (unframed-row after ty frame) refl) (λ val e. again (accepted-frame-reads ty b after frame c (frame-accepted ty b after frame c .0 (val, e))) val e)

@@ -1,4 +1,4 @@
-// What an operation answers: the length of its result, or why it is refused. One refusal for each row of 01's table, in its order.
+// What an operation answers: the length of its result, or why it is refused. One refusal for each row of the table (01, with 02's numbers), in its order.
 ghost use mathlib.Core.Path.{_≡_};
 ghost use Rattle.reply.specs.Numbers.{refusalNumber, numberOf, lengthOf};
 
@@ -19,6 +19,8 @@ pub enum Refusal {
     NoSuchPart,
     ValueLength,
     NotOneValue,
+    IntegerTooLarge,
+    ListTooLong,
     NoRoom,
 }
 
@@ -48,6 +50,8 @@ pub fn refusal_number(x: Refusal) -> u32
         Refusal::NoSuchPart => 14,
         Refusal::ValueLength => 15,
         Refusal::NotOneValue => 16,
+        Refusal::IntegerTooLarge => 21,
+        Refusal::ListTooLong => 22,
         Refusal::NoRoom => 17,
     }
 }

@@ -136,7 +136,7 @@ text-counts s val h w = record { wrote = w; counts = wrote-counts h w }
 pub reported : {s val out o : List ℕ} {n : ℕ} → Reported s val out o n → Wrote (job-text s val) out o n × Counts n o
 reported r = (r .wrote, r .counts)
 
-number-small : (x : Refusal) → refusalNumber x ≤ 17
+number-small : (x : Refusal) → refusalNumber x ≤ 22
 number-small refusal.TypeLength = omega arith
 number-small refusal.TypeTooLong = omega arith
 number-small refusal.BadRecord = omega arith
@@ -153,6 +153,8 @@ number-small refusal.PathOdd = omega arith
 number-small refusal.NoSuchPart = omega arith
 number-small refusal.ValueLength = omega arith
 number-small refusal.NotOneValue = omega arith
+number-small refusal.IntegerTooLarge = omega arith
+number-small refusal.ListTooLong = omega arith
 number-small refusal.NoRoom = omega arith
 
 -- the line of a refusal is short

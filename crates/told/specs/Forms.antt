@@ -2,11 +2,12 @@
 -- What is read is what the model's `parse` reads from that record on.
 use mathlib.Core.Bool.{Bool, true, false}
 use mathlib.Core.List.{List, [], _∷_, map}
-use mathlib.Core.Option.{Option, some}
+use mathlib.Core.Option.{Option, none, some}
 use Prim.Native.Nat.{ℕ, zero, suc, _+_, _-_, _*_, _/_, _<_, _≤_}
 use lib.ListN.{length, getD, take, drop}
 use Rattle.num.specs.declared.NonZeroPow2Usize.{NonZeroPow2Usize}
 use Rattle.num.specs.Powers.{bound, bound-log2}
+use Rattle.model.specs.Outcome.{Outcome, done, refused}
 use Rattle.model.specs.Options.{mapO, bindO}
 use Rattle.model.specs.Bytes.{records}
 use Rattle.model.specs.Balanced.{btree, fold}
@@ -76,9 +77,14 @@ Told = Option (SValue × ℕ)
 abbrev pub rows-from : List ℕ → ℕ → List Rec
 rows-from val v = drop v (map value-record (records 36 val))
 
+-- what was read, if it was
+abbrev pub read : {A : Type 0} → Outcome A → Option A
+read (done x) = some x
+read (refused n) = none
+
 -- what was read from record v on: its shape by f, its records by g
-abbrev pub shown : {A : Type 0} → (A → SValue) → (A → List Rec) → ℕ → Option (A × List Rec) → Told
-shown f g v = mapO (λ x. (f (x .0), v + length (g (x .0))))
+abbrev pub shown : {A : Type 0} → (A → SValue) → (A → List Rec) → ℕ → Outcome (A × List Rec) → Told
+shown f g v o = mapO (λ x. (f (x .0), v + length (g (x .0)))) (read o)
 
 -- as one of the type at record p, with d levels from there on; or, where a Variant stands, of its payload type
 unfoldable pub told : ℕ → Bool → List ℕ → List ℕ → ℕ → ℕ → Told

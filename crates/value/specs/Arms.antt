@@ -28,7 +28,7 @@ use Rattle.value.specs.declared.Opens.the-variants.{Wrong, Run, Case}
 use Rattle.value.specs.declared.Checked.{Checked}
 use Rattle.value.specs.declared.Checked.the-variants.{Next, Bad}
 use Rattle.reply.specs.declared.Refusal.{Refusal}
-use Rattle.reply.specs.declared.Refusal.the-variants.{ValueLength, NotOneValue}
+use Rattle.reply.specs.declared.Refusal.the-variants.{ValueLength, NotOneValue, IntegerTooLarge, ListTooLong}
 use Rattle.model.specs.Types.{Ty}
 use Rattle.value.specs.Check.{check, whole, file-answer}
 use Rattle.value.specs.Record.{starts, number-at, below}
@@ -120,7 +120,7 @@ pub on-one : (c : Choice) (a b : Opens) → c ≡ One → b ≡ by-choice c a b
 unfolding by-choice
 on-one c a b e = rw e
 
-pub on-neither : (c : Choice) (a b : Opens) → c ≡ Neither → Wrong ≡ by-choice c a b
+pub on-neither : (c : Choice) (a b : Opens) → c ≡ Neither → Wrong NotOneValue ≡ by-choice c a b
 unfolding by-choice
 on-neither c a b e = rw e
 
@@ -128,11 +128,11 @@ pub count-yes : (c : Count) (m n : ℕ) (o : Opens) → c ≡ Of m → m ≡ n �
 unfolding counted
 count-yes c m n o e f = rw (e, eq-eqb m n f)
 
-pub count-no : (c : Count) (m n : ℕ) (o : Opens) → c ≡ Of m → (m ≡ n → ⊥) → Wrong ≡ counted c n o
+pub count-no : (c : Count) (m n : ℕ) (o : Opens) → c ≡ Of m → (m ≡ n → ⊥) → Wrong NotOneValue ≡ counted c n o
 unfolding counted
 count-no c m n o e f = rw (e, ne-eqb m n f)
 
-pub count-not : (c : Count) (n : ℕ) (o : Opens) → c ≡ Not → Wrong ≡ counted c n o
+pub count-not : (c : Count) (n : ℕ) (o : Opens) → c ≡ Not → Wrong NotOneValue ≡ counted c n o
 unfolding counted
 count-not c n o e = rw e
 
@@ -215,16 +215,16 @@ pub width-fits : (w : Pow2Usize) (n j : ℕ) → FairWidth w → n ≡ w .0 → 
 width-fits w n j f e i = let r = width-range w f in let h : n ≡ 0 → ⊥ = λ z. omega arith in let q = i ∙ sym (joints-some n h) in omega arith
 
 module _ (s : List ℕ) (v w n : ℕ) (e : n ≡ w) (a : Bool) (p : a ≡ starts s v 2 0) where
-  pub uint-none : a ≡ false → Wrong ≡ uint-opens w s v
+  pub uint-none : a ≡ false → Wrong NotOneValue ≡ uint-opens w s v
   unfolding uint-opens
   uint-none q = rw (← p, q)
 
   module _ (q : a ≡ true) (m : ℕ) (h : m ≡ number-at s v) where
-    pub uint-other : (m ≡ n → ⊥) → Wrong ≡ uint-opens w s v
+    pub uint-other : (m ≡ n → ⊥) → Wrong NotOneValue ≡ uint-opens w s v
     unfolding uint-opens
     uint-other z = rw (← p, q, ne-eqb (number-at s v) w (λ y. z (h ∙ y ∙ sym e)))
 
-    pub uint-large : (b : Bool) → m ≡ n → b ≡ below s v n → b ≡ false → Wrong ≡ uint-opens w s v
+    pub uint-large : (b : Bool) → m ≡ n → b ≡ below s v n → b ≡ false → Wrong IntegerTooLarge ≡ uint-opens w s v
     unfolding uint-opens
     uint-large b z y x = rw (← p, q, eq-eqb (number-at s v) w (sym h ∙ z ∙ e), ← e, ← y, x)
 
@@ -243,11 +243,11 @@ module _ (c : Count) (b g : ℕ) (p : g ≡ b) where
   unfolding list-opens
   list-yes m l x e h q y = rw (e, lt-ltb m b (rw p at h), ← q, ← y)
 
-  pub list-no : (m : ℕ) → c ≡ Of m → g ≤ m → Wrong ≡ list-opens c b
+  pub list-no : (m : ℕ) → c ≡ Of m → g ≤ m → Wrong ListTooLong ≡ list-opens c b
   unfolding list-opens
   list-no m e h = rw (e, le-ltb m b (rw p at h))
 
-pub list-not : (c : Count) (b : ℕ) → c ≡ Not → Wrong ≡ list-opens c b
+pub list-not : (c : Count) (b : ℕ) → c ≡ Not → Wrong NotOneValue ≡ list-opens c b
 unfolding list-opens
 list-not c b e = rw e
 
@@ -256,11 +256,11 @@ module _ (c : Count) (n : ℕ) where
   unfolding enum-opens
   enum-yes i x e h y = rw (e, lt-ltb i n h, ← y)
 
-  pub enum-no : (i : ℕ) → c ≡ Of i → n ≤ i → Wrong ≡ enum-opens c n
+  pub enum-no : (i : ℕ) → c ≡ Of i → n ≤ i → Wrong NotOneValue ≡ enum-opens c n
   unfolding enum-opens
   enum-no i e h = rw (e, le-ltb i n h)
 
-  pub enum-not : c ≡ Not → Wrong ≡ enum-opens c n
+  pub enum-not : c ≡ Not → Wrong NotOneValue ≡ enum-opens c n
   unfolding enum-opens
   enum-not e = rw e
 

@@ -3,7 +3,7 @@ use Prim.Native.Nat.{ℕ, zero, suc, _+_, _*_, _/_, _%_, _^_}
 use mathlib.Core.List.{List}
 use lib.ListN.{length}
 use lib.Dec.{ltb, eqb}
-use Rattle.reply.specs.declared.Refusal.the-variants.{ValueLength, NotOneValue}
+use Rattle.reply.specs.declared.Refusal.the-variants.{ValueLength, NotOneValue, IntegerTooLarge, ListTooLong}
 use Rattle.model.specs.Options.{pick}
 use Rattle.model.specs.Balanced.{btree}
 use Rattle.model.specs.Types.{Ty, Tys, Variants, never, bool, uint, either, option, tuple, array, list, enum, nil, cons, last, more, size, count}
@@ -16,7 +16,7 @@ use Rattle.value.specs.declared.Checked.the-variants.{Next, Bad}
 use Rattle.value.specs.Record.{starts, number-at, below, choice-at, count-at}
 use Rattle.value.specs.Lengths.{add, joints, blocks, tags}
 
--- a record that does not say a value of the type
+-- row 16: every fault but an integer too large and a list too long
 abbrev pub wrong : Checked
 wrong = Bad NotOneValue
 
@@ -42,12 +42,12 @@ unfoldable mutual
   pub check : Ty → List ℕ → ℕ → ℕ → Checked
   check never s v k = wrong
   check bool s v k = side (choice-at s v 1) (Next (v + 1) (add k 2)) (Next (v + 1) (add k 2))
-  check (uint w) s v k = pick (starts s v 2 0) (pick (eqb (number-at s v) w) (pick (below s v w) (Next (v + 1) (add k (joints w + 2 * w))) wrong) wrong) wrong
+  check (uint w) s v k = pick (starts s v 2 0) (pick (eqb (number-at s v) w) (pick (below s v w) (Next (v + 1) (add k (joints w + 2 * w))) (Bad IntegerTooLarge)) wrong) wrong
   check (either a b) s v k = side (choice-at s v 3) (check a s (v + 1) (add k 1)) (check b s (v + 1) (add k 1))
   check (option a) s v k = side (choice-at s v 4) (Next (v + 1) (add k 2)) (check a s (v + 1) (add k 1))
   check (tuple ts) s v k = says (count-at s v 5) (λ m. pick (eqb m (size ts)) (checks ts s (v + 1) (add k (joints (size ts)))) wrong)
   check (array a n) s v k = says (count-at s v 6) (λ m. pick (eqb m n) (run (λ i j. check a s i j) n (v + 1) (add k (joints n))) wrong)
-  check (list a e) s v k = says (count-at s v 7) (λ m. pick (ltb m (2 ^ suc e)) (run (λ i j. check a s i j) m (v + 1) (add k (blocks e m 0))) wrong)
+  check (list a e) s v k = says (count-at s v 7) (λ m. pick (ltb m (2 ^ suc e)) (run (λ i j. check a s i j) m (v + 1) (add k (blocks e m 0))) (Bad ListTooLong))
   check (enum vs) s v k = says (count-at s v 8) (λ i. check-case vs i s (v + 1) (add k (tags (btree (count vs)) i 0)))
 
   -- parts one after the other
@@ -71,7 +71,7 @@ unfoldable pub whole : ℕ → Checked → Checked
 whole n (Next e k) = pick (eqb e n) (Next e k) wrong
 whole n (Bad x) = Bad x
 
--- rows 15 and 16
+-- rows 15, 16, 21 and 22
 unfoldable pub file-answer : Ty → List ℕ → Checked
 file-answer t s =
     pick (eqb (length s) 0) (Bad ValueLength)

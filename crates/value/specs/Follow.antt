@@ -25,6 +25,8 @@ use Rattle.types.specs.Unique.{kind}
 use Rattle.types.specs.Unique as unique
 use Rattle.types.specs.Trees.{endOf, kids, cases, node, tree, treev}
 use Rattle.types.specs.Steps.{Given, GivenRow, given-levels, given-head, given-first, given-end, given-rest, tree-in, size-kids, count-cases}
+use Rattle.reply.specs.declared.Refusal.{Refusal}
+use Rattle.reply.specs.declared.Refusal.the-variants.{NotOneValue, IntegerTooLarge, ListTooLong}
 use Rattle.value.specs.declared.Choice.{Choice}
 use Rattle.value.specs.declared.Choice.the-variants.{Zero, One, Neither}
 use Rattle.value.specs.declared.Count.{Count}
@@ -42,7 +44,7 @@ use Rattle.value.specs.Steps.{GivenIf, Here, rec-here, given-hop}
 
 -- d levels are left for the children, the first of which stands at p
 unfoldable pub follow : ℕ → List ℕ → List ℕ → ℕ → List ℕ → ℕ → ℕ → Opens → Checked
-follow d s E p val v k Wrong = wrong
+follow d s E p val v k (Wrong x) = Bad x
 follow d s E p val v k (Run j n own) = run (check (tree d s (hop E j p)) val) n (v + 1) (add k own)
 follow d s E p val v k (Parts n) = parts (kids (tree d s) (walk d false s) n p) val (v + 1) k
 follow d s E p val v k (Case i own) = parts (treev d s (hop E i p)) val (v + 1) (add k own)
@@ -65,10 +67,10 @@ module _ (d : ℕ) (s E : List ℕ) (val : List ℕ) (v k : ℕ) where
   side-follow p One a b = refl
   side-follow p Neither a b = refl
 
-  pick-follow : (p : ℕ) (b : Bool) (o : Opens) → pick b (follow d s E p val v k o) wrong ≡ follow d s E p val v k (pick b o Wrong)
+  pick-follow : (p : ℕ) (x : Refusal) (b : Bool) (o : Opens) → pick b (follow d s E p val v k o) (Bad x) ≡ follow d s E p val v k (pick b o (Wrong x))
   unfolding follow
-  pick-follow p true o = refl
-  pick-follow p false o = refl
+  pick-follow p x true o = refl
+  pick-follow p x false o = refl
 
   -- the first child, and the second
   first-child : (p j : ℕ) → run (check (tree d s (hop E 0 p)) val) 1 (v + 1) j ≡ check (tree d s p) val (v + 1) j
@@ -100,35 +102,35 @@ module _ (d : ℕ) (s E : List ℕ) (val : List ℕ) (v k : ℕ) where
     tuple-follow : (n : ℕ) (c : Count) → says c (λ m. pick (eqb m (size (kids (tree d s) (walk d false s) n p))) (checks (kids (tree d s) (walk d false s) n p) val (v + 1) (add k (joints (size (kids (tree d s) (walk d false s) n p))))) wrong) ≡ follow d s E p val v k (counted c n (Parts n))
     unfolding says counted follow parts
     tuple-follow n Not = refl
-    tuple-follow n (Of m) = ap (λ z. pick (eqb m z) (parts (kids (tree d s) (walk d false s) n p) val (v + 1) k) wrong) (size-kids (tree d s) (walk d false s) n p) ∙ pick-follow p (eqb m n) (Parts n)
+    tuple-follow n (Of m) = ap (λ z. pick (eqb m z) (parts (kids (tree d s) (walk d false s) n p) val (v + 1) k) wrong) (size-kids (tree d s) (walk d false s) n p) ∙ pick-follow p NotOneValue (eqb m n) (Parts n)
 
     array-follow : (n : ℕ) (c : Count) → says c (λ m. pick (eqb m n) (run (check (tree d s p) val) n (v + 1) (add k (joints n))) wrong) ≡ follow d s E p val v k (counted c n (Run 0 n (joints n)))
     unfolding says counted follow hop
     array-follow n Not = refl
-    array-follow n (Of m) = pick-follow p (eqb m n) (Run 0 n (joints n))
+    array-follow n (Of m) = pick-follow p NotOneValue (eqb m n) (Run 0 n (joints n))
 
-    list-follow : (b : ℕ) (c : Count) → 2 ^ suc (bound-log2 b - 1) ≡ b → says c (λ m. pick (ltb m (2 ^ suc (bound-log2 b - 1))) (run (check (tree d s p) val) m (v + 1) (add k (blocks (bound-log2 b - 1) m 0))) wrong) ≡ follow d s E p val v k (list-opens c b)
+    list-follow : (b : ℕ) (c : Count) → 2 ^ suc (bound-log2 b - 1) ≡ b → says c (λ m. pick (ltb m (2 ^ suc (bound-log2 b - 1))) (run (check (tree d s p) val) m (v + 1) (add k (blocks (bound-log2 b - 1) m 0))) (Bad ListTooLong)) ≡ follow d s E p val v k (list-opens c b)
     unfolding says list-opens follow hop
     list-follow b Not e = refl
-    list-follow b (Of m) e = ap (λ z. pick (ltb m z) (run (check (tree d s p) val) m (v + 1) (add k (blocks (bound-log2 b - 1) m 0))) wrong) e ∙ pick-follow p (ltb m b) (Run 0 m (blocks (bound-log2 b - 1) m 0))
+    list-follow b (Of m) e = ap (λ z. pick (ltb m z) (run (check (tree d s p) val) m (v + 1) (add k (blocks (bound-log2 b - 1) m 0))) (Bad ListTooLong)) e ∙ pick-follow p ListTooLong (ltb m b) (Run 0 m (blocks (bound-log2 b - 1) m 0))
 
     enum-follow : (n : ℕ) (c : Count) → GivenRow d true s E (suc n) p → says c (λ i. check-case (cases (treev d s) (walk d true s) n p) i val (v + 1) (add k (tags (btree (count (cases (treev d s) (walk d true s) n p))) i 0))) ≡ follow d s E p val v k (enum-opens c (suc n))
     unfolding says enum-opens follow
     enum-follow n Not g = refl
     enum-follow n (Of i) g = rw (count-cases (treev d s) (walk d true s) n p) (go (ltb i (suc n)) refl)
       where
-        go : (b : Bool) → ltb i (suc n) ≡ b → check-case (cases (treev d s) (walk d true s) n p) i val (v + 1) (add k (tags (btree (suc n)) i 0)) ≡ follow d s E p val v k (pick b (Case i (tags (btree (suc n)) i 0)) Wrong)
+        go : (b : Bool) → ltb i (suc n) ≡ b → check-case (cases (treev d s) (walk d true s) n p) i val (v + 1) (add k (tags (btree (suc n)) i 0)) ≡ follow d s E p val v k (pick b (Case i (tags (btree (suc n)) i 0)) (Wrong NotOneValue))
         go true e = case-in i n p _ (ltb-true i (suc n) e) g
         go false e = case-past i n p _ (ltb-false i (suc n) e)
 
     uint-follow : (w : ℕ) → check (uint w) val v k ≡ follow d s E p val v k (uint-opens w val v)
     unfolding check uint-opens run follow
     uint-follow w =
-        ap (λ x. pick (starts val v 2 0) x wrong) (ap (λ x. pick (eqb (number-at val v) w) x wrong) leaf ∙ pick-follow p (eqb (number-at val v) w) (pick (below val v w) (Run 0 0 (joints w + 2 * w)) Wrong))
-        ∙ pick-follow p (starts val v 2 0) (pick (eqb (number-at val v) w) (pick (below val v w) (Run 0 0 (joints w + 2 * w)) Wrong) Wrong)
+        ap (λ x. pick (starts val v 2 0) x wrong) (ap (λ x. pick (eqb (number-at val v) w) x wrong) leaf ∙ pick-follow p NotOneValue (eqb (number-at val v) w) (pick (below val v w) (Run 0 0 (joints w + 2 * w)) (Wrong IntegerTooLarge)))
+        ∙ pick-follow p NotOneValue (starts val v 2 0) (pick (eqb (number-at val v) w) (pick (below val v w) (Run 0 0 (joints w + 2 * w)) (Wrong IntegerTooLarge)) (Wrong NotOneValue))
       where
-        leaf : pick (below val v w) (Next (v + 1) (add k (joints w + 2 * w))) wrong ≡ follow d s E p val v k (pick (below val v w) (Run 0 0 (joints w + 2 * w)) Wrong)
-        leaf = pick-follow p (below val v w) (Run 0 0 (joints w + 2 * w))
+        leaf : pick (below val v w) (Next (v + 1) (add k (joints w + 2 * w))) (Bad IntegerTooLarge) ≡ follow d s E p val v k (pick (below val v w) (Run 0 0 (joints w + 2 * w)) (Wrong IntegerTooLarge))
+        leaf = pick-follow p IntegerTooLarge (below val v w) (Run 0 0 (joints w + 2 * w))
 
     bound-of-fair : (b : ℕ) (x : ℕ) → Rattle.model.specs.Options.find (λ e. 2 ^ suc e) 15 0 b ≡ mathlib.Core.Option.some x → 2 ^ suc (bound-log2 b - 1) ≡ b
     bound-of-fair b x f = let r = bounded b x f in let z : bound-log2 b - 1 ≡ x = omega (arith, r .log2) in ap (λ n. 2 ^ suc n) z ∙ sym (r .power)
@@ -137,7 +139,7 @@ module _ (d : ℕ) (s E : List ℕ) (val : List ℕ) (v k : ℕ) where
     unfolding node check opens-of follow run
     node-follow Missing f o g = absurd o
     node-follow Faulty f o g = absurd o
-    node-follow Never f o g = pick-follow p false Wrong
+    node-follow Never f o g = pick-follow p NotOneValue false (Wrong NotOneValue)
     node-follow Boolean f o g = side-follow p (choice-at val v 1) (Run 0 0 2) (Run 0 0 2)
     node-follow (UInt w) f o g = uint-follow (w .0)
     node-follow Either f o g = ap₂ (λ x y. side (choice-at val v 3) x y) (sym (first-child p (add k 1))) (sym (second-child p 2 (add k 1) (omega arith) g)) ∙ side-follow p (choice-at val v 3) (Run 0 1 1) (Run 1 1 1)
@@ -152,15 +154,15 @@ module _ (d : ℕ) (s E : List ℕ) (val : List ℕ) (v k : ℕ) where
 -- THE RECORD IN THE FILE, AND THE CHILDREN IN THE TYPE
 
 abbrev Fit : ℕ → List ℕ → List ℕ → ℕ → List ℕ → ℕ → Opens → Type 0
-Fit d s E p val v Wrong = Unit
+Fit d s E p val v (Wrong x) = Unit
 Fit d s E p val v (Run j n own) = GivenIf n d s E (hop E j p) × (v < length val / 36)
 Fit d s E p val v (Parts n) = GivenRow d false s E n p × (v < length val / 36)
 Fit d s E p val v (Case i own) = Given d true s E (hop E i p) × (v < length val / 36)
 
 module _ (d : ℕ) (s E : List ℕ) (p : ℕ) (val : List ℕ) (v : ℕ) where
-  pick-fit : (b : Bool) (o : Opens) → (b ≡ true → Fit d s E p val v o) → Fit d s E p val v (pick b o Wrong)
-  pick-fit true o f = f refl
-  pick-fit false o f = tt
+  pick-fit : (x : Refusal) (b : Bool) (o : Opens) → (b ≡ true → Fit d s E p val v o) → Fit d s E p val v (pick b o (Wrong x))
+  pick-fit x true o f = f refl
+  pick-fit x false o f = tt
 
   in-file : (k c : ℕ) → starts val v k c ≡ true → v < length val / 36
   in-file k c e = starts-there val v k c (starts val v k c) refl e
@@ -199,13 +201,13 @@ module _ (d : ℕ) (s E : List ℕ) (p : ℕ) (val : List ℕ) (v : ℕ) where
   fit Faulty g = tt
   fit Never g = tt
   fit Boolean g = choice-fit 1 (Run 0 0 2) (Run 0 0 2) (λ l. (none-of _, l)) (λ l. (none-of _, l))
-  fit (UInt w) g = pick-fit (starts val v 2 0) _ (λ e. pick-fit (eqb (number-at val v) (w .0)) _ (λ q. pick-fit (below val v (w .0)) (Run 0 0 (joints (w .0) + 2 * w .0)) (λ r. (none-of _, in-file 2 0 e))))
+  fit (UInt w) g = pick-fit NotOneValue (starts val v 2 0) _ (λ e. pick-fit NotOneValue (eqb (number-at val v) (w .0)) _ (λ q. pick-fit IntegerTooLarge (below val v (w .0)) (Run 0 0 (joints (w .0) + 2 * w .0)) (λ r. (none-of _, in-file 2 0 e))))
   fit Either g = choice-fit 3 (Run 0 1 1) (Run 1 1 1) (λ l. (some-of 0 2 1 (omega arith) g, l)) (λ l. (some-of 1 2 1 (omega arith) g, l))
   fit Opt g = choice-fit 4 (Run 0 0 2) (Run 0 1 1) (λ l. (none-of _, l)) (λ l. (some-of 0 1 1 (omega arith) g, l))
-  fit (Tuple n) g = count-fit 5 (λ c. counted c n (Parts n)) tt (λ m l. pick-fit (eqb m n) (Parts n) (λ e. (g, l)))
-  fit (Array n) g = count-fit 6 (λ c. counted c n (Run 0 n (joints n))) tt (λ m l. pick-fit (eqb m n) (Run 0 n (joints n)) (λ e. (some-of 0 1 n (omega arith) g, l)))
-  fit (Listed b) g = count-fit 7 (λ c. list-opens c (b .0)) tt (λ m l. pick-fit (ltb m (b .0)) (Run 0 m (blocks (bound-log2 (b .0) - 1) m 0)) (λ e. (some-of 0 1 m (omega arith) g, l)))
-  fit (head.Variants n) g = count-fit 8 (λ c. enum-opens c n) tt (λ i l. pick-fit (ltb i n) (Case i (tags (btree n) i 0)) (λ e. (given-hop d true s E i n p (ltb-true i n e) g, l)))
+  fit (Tuple n) g = count-fit 5 (λ c. counted c n (Parts n)) tt (λ m l. pick-fit NotOneValue (eqb m n) (Parts n) (λ e. (g, l)))
+  fit (Array n) g = count-fit 6 (λ c. counted c n (Run 0 n (joints n))) tt (λ m l. pick-fit NotOneValue (eqb m n) (Run 0 n (joints n)) (λ e. (some-of 0 1 n (omega arith) g, l)))
+  fit (Listed b) g = count-fit 7 (λ c. list-opens c (b .0)) tt (λ m l. pick-fit ListTooLong (ltb m (b .0)) (Run 0 m (blocks (bound-log2 (b .0) - 1) m 0)) (λ e. (some-of 0 1 m (omega arith) g, l)))
+  fit (head.Variants n) g = count-fit 8 (λ c. enum-opens c n) tt (λ i l. pick-fit NotOneValue (ltb i n) (Case i (tags (btree n) i 0)) (λ e. (given-hop d true s E i n p (ltb-true i n e) g, l)))
   fit (Payload n) g = tt
 
 -- IN THE FORM OF THE NEEDS
@@ -221,9 +223,9 @@ module _ {d : ℕ} {s E : List ℕ} {at : ℕ} (h : Head) (o : Opens) (val : Lis
       ∙ node-follow (d - 1) s E val v k (at + 1) h (p .1) (rec-here g (callsFor h) (callsFor h) (ap callsFor (p .0)) refl) (given-head h g (p .0) refl)
       ∙ ap (λ x. follow (d - 1) s E (at + 1) val v k x) (sym q)
 
-  pub wrong-is : (k : ℕ) → o ≡ Wrong → wrong ≡ check (tree d s at) val v k
+  pub wrong-is : (k : ℕ) (x : Refusal) → o ≡ Wrong x → Bad x ≡ check (tree d s at) val v k
   unfolding follow
-  wrong-is k e = sym (as-said k ∙ rw e)
+  wrong-is k x e = sym (as-said k ∙ rw e)
 
   module _ (j n own : ℕ) (e : o ≡ Run j n own) where
     pub run-next : length val < 2 ^ 64 → Fits w64 (v + 1)

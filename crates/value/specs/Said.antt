@@ -5,6 +5,7 @@ use Prim.Native.Nat.{ℕ, _≤_}
 use native.Mathlib.Omega.{arith}
 use Rattle.num.specs.declared.NonZeroPow2Usize.{NonZeroPow2Usize}
 use Rattle.num.specs.declared.Pow2Usize.{Pow2Usize}
+use Rattle.reply.specs.declared.Refusal.the-variants.{NotOneValue}
 use Rattle.types.specs.declared.Head.{Head}
 use Rattle.types.specs.declared.Head.the-variants.{Missing, Faulty, Never, Boolean, UInt, Either, Opt, Tuple, Array, Listed, Variants, Payload}
 use Rattle.types.specs.Heads.{Fair, FairWidth, FairBound, fair}
@@ -27,19 +28,19 @@ module _ (h : Head) (f : Fair h) where
   fair-enum n e = let l = fair h (Variants n) f e .1 in omega arith
 
 module _ (h : Head) (s : List ℕ) (v : ℕ) where
-  pub missing-said : h ≡ Missing → Wrong ≡ opens-of h s v
+  pub missing-said : h ≡ Missing → Wrong NotOneValue ≡ opens-of h s v
   unfolding opens-of
   missing-said e = rw e
 
-  pub faulty-said : h ≡ Faulty → Wrong ≡ opens-of h s v
+  pub faulty-said : h ≡ Faulty → Wrong NotOneValue ≡ opens-of h s v
   unfolding opens-of
   faulty-said e = rw e
 
-  pub never-said : h ≡ Never → Wrong ≡ opens-of h s v
+  pub never-said : h ≡ Never → Wrong NotOneValue ≡ opens-of h s v
   unfolding opens-of
   never-said e = rw e
 
-  pub payload-said : (n : ℕ) → h ≡ Payload n → Wrong ≡ opens-of h s v
+  pub payload-said : (n : ℕ) → h ≡ Payload n → Wrong NotOneValue ≡ opens-of h s v
   unfolding opens-of
   payload-said n e = rw e
 

@@ -1,4 +1,4 @@
-// Value files against a type, after value.rs, whose makers of values refuse what row 16 refuses here. Both are walked in lock step: where the value ends and how many records its shape has, or the fault that comes first.
+// Value files against a type, after value.rs, whose makers of values refuse what rows 16, 21 and 22 refuse here. Both are walked in lock step: where the value ends and how many records its shape has, or the fault that comes first.
 // Shape lengths are cut at 65,537, one more than a shape may have records.
 use array::btree_split_index;
 use num::NonZeroPow2Usize;
@@ -44,9 +44,9 @@ enum Count {
     Not,
 }
 
-// What a record of a value file calls for: n values of the type's child j, or n parts, or the payload of Variant i. The last number is how many records of the shape are its own.
+// What a record of a value file calls for: n values of the type's child j, or n parts, or the payload of Variant i, the last number being how many records of the shape are its own; or the row that refuses it.
 enum Opens {
-    Wrong,
+    Wrong(Refusal),
     Run(usize, usize, usize),
     Parts(usize),
     Case(usize, usize),
@@ -245,28 +245,32 @@ fn count_of(val: &[u8], v: usize, kind: u8) -> Count
     Count::Not
 }
 
-// What is called for on this choice, `Wrong` where there is none.
+// What is called for on this choice; `NotOneValue` refuses where there is none.
 fn on_choice(c: Choice, zero: Opens, one: Opens) -> Opens
     ensures { λ r. ⌜ r ≡ by-choice c zero one ⌝ }
 {
     match c {
         Choice::Zero => zero,
         Choice::One => one,
-        Choice::Neither => Opens::Wrong,
+        Choice::Neither => Opens::Wrong(Refusal::NotOneValue),
     }
 }
 
-// What is called for if the number is n, `Wrong` where it is not.
+// What is called for if the number is n; `NotOneValue` refuses where it is not.
 fn on_count(c: Count, n: usize, o: Opens) -> Opens
     ensures { λ r. ⌜ r ≡ counted c n o ⌝ }
 {
     match c {
-        Count::Of(m) => if m == n { o } else { Opens::Wrong },
-        Count::Not => Opens::Wrong,
+        Count::Of(m) => if m == n {
+            o
+        } else {
+            Opens::Wrong(Refusal::NotOneValue)
+        },
+        Count::Not => Opens::Wrong(Refusal::NotOneValue),
     }
 }
 
-// A UInt of w bits at record v: a product of w bits, each of two records.
+// A UInt of w bits at record v: a product of w bits, each of two records. An integer too large for them is refused last.
 fn open_uint(val: &[u8], v: usize, w: Pow2Usize) -> Opens
     requires { ⌜ FairWidth w ⌝ }
     ensures { λ r. ⌜ r ≡ uint-opens (w .0) (now (val .entry)) v ⌝ }
@@ -277,12 +281,13 @@ fn open_uint(val: &[u8], v: usize, w: Pow2Usize) -> Opens
             if is_below(val, v, n) {
                 return Opens::Run(0, 0, joints_of(n) + 2 * n);
             }
+            return Opens::Wrong(Refusal::IntegerTooLarge);
         }
     }
-    Opens::Wrong
+    Opens::Wrong(Refusal::NotOneValue)
 }
 
-// A List with the bound b whose record says this number.
+// A List with the bound b whose record says this number. One at or above the bound is refused last.
 fn open_list(c: Count, b: NonZeroPow2Usize) -> Opens
     requires { ⌜ FairBound b ⌝ }
     ensures { λ r. ⌜ r ≡ list-opens c (b .0) ⌝ }
@@ -291,9 +296,9 @@ fn open_list(c: Count, b: NonZeroPow2Usize) -> Opens
         Count::Of(m) => if m < b.get() {
             Opens::Run(0, m, list_blocks(b.log2() - 1, m, 0))
         } else {
-            Opens::Wrong
+            Opens::Wrong(Refusal::ListTooLong)
         },
-        Count::Not => Opens::Wrong,
+        Count::Not => Opens::Wrong(Refusal::NotOneValue),
     }
 }
 
@@ -306,9 +311,9 @@ fn open_enum(c: Count, n: usize) -> Opens
         Count::Of(i) => if i < n {
             Opens::Case(i, enum_tags(n, i, 0))
         } else {
-            Opens::Wrong
+            Opens::Wrong(Refusal::NotOneValue)
         },
-        Count::Not => Opens::Wrong,
+        Count::Not => Opens::Wrong(Refusal::NotOneValue),
     }
 }
 
@@ -318,9 +323,9 @@ fn open_record(h: Head, val: &[u8], v: usize) -> Opens
     ensures { λ r. ⌜ r ≡ opens-of h (now (val .entry)) v ⌝ }
 {
     match h {
-        Head::Missing => Opens::Wrong,
-        Head::Faulty => Opens::Wrong,
-        Head::Never => Opens::Wrong,
+        Head::Missing => Opens::Wrong(Refusal::NotOneValue),
+        Head::Faulty => Opens::Wrong(Refusal::NotOneValue),
+        Head::Never => Opens::Wrong(Refusal::NotOneValue),
         Head::Boolean => on_choice(
             choice_of(val, v, 1),
             Opens::Run(0, 0, 2),
@@ -341,7 +346,7 @@ fn open_record(h: Head, val: &[u8], v: usize) -> Opens
         Head::Array(n) => on_count(count_of(val, v, 6), n, Opens::Run(0, n, joints_of(n))),
         Head::Listed(b) => open_list(count_of(val, v, 7), b),
         Head::Variants(n) => open_enum(count_of(val, v, 8), n),
-        Head::Payload(_) => Opens::Wrong,
+        Head::Payload(_) => Opens::Wrong(Refusal::NotOneValue),
     }
 }
 
@@ -359,7 +364,7 @@ fn check_value(
     ensures { λ r. ⌜ r ≡ check (tree level (now (ty .entry)) at) (now (val .entry)) v shape ⌝ }
 {
     match open_record(head_at(ty, at), val, v) {
-        Opens::Wrong => Checked::Bad(Refusal::NotOneValue),
+        Opens::Wrong(x) => Checked::Bad(x),
         Opens::Run(j, n, own) => check_run(
             ty,
             ends,
@@ -471,7 +476,7 @@ fn check_payload(
     }
 }
 
-// Rows 15 and 16 of a value file as one of the type at place `at`, with `level` levels from there on: how many records it has and how many its shape, or the fault that comes first.
+// Rows 15, 16, 21 and 22 of a value file as one of the type at place `at`, with `level` levels from there on: how many records it has and how many its shape, or the fault that comes first.
 pub fn check_part(ty: &[u8], ends: &[usize], at: usize, level: usize, val: &[u8]) -> Checked
     requires { ⌜ Given level false (now ty) (now ends) at ⌝ }
     ensures { λ r. ⌜ r ≡ file-answer (tree level (now (ty .entry)) at) (now (val .entry)) ⌝ }

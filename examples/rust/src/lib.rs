@@ -80,7 +80,7 @@ pub fn lower(ty: &[u8], out: &mut [u8]) -> Result<usize, Refusal> {
 ///
 /// # Errors
 ///
-/// Numbers 1 to 7, 15, 16 and 17.
+/// Numbers 1 to 7, 15, 16, 21, 22 and 17.
 ///
 /// ```
 /// // true, as an Option of a Boolean
@@ -145,7 +145,7 @@ pub fn reconstruct(ty: &[u8], shape: &[u8], out: &mut [u8]) -> Result<usize, Ref
 ///
 /// # Errors
 ///
-/// Numbers 1 to 7, 15, 16 and 17.
+/// Numbers 1 to 7, 15, 16, 21, 22 and 17.
 ///
 /// ```
 /// // a u4 that holds 9
@@ -248,7 +248,7 @@ pub fn part_read(ty: &[u8], frame: &[u8], path: &[u8], out: &mut [u8]) -> Result
 ///
 /// # Errors
 ///
-/// Numbers 1 to 7 and 11 to 16.
+/// Numbers 1 to 7, 11 to 16, 21 and 22.
 ///
 /// ```
 /// // a u4 that holds 6 in the place of one that holds 9: the path of the whole is empty

@@ -40,6 +40,10 @@ pub enum Refusal {
     ValueLength,
     /// 16: the value file is not one value of the type; for an edit, of the part's type.
     NotOneValue,
+    /// 21: in the place of 16, an integer in the value file is too large for its width.
+    IntegerTooLarge,
+    /// 22: in the place of 16, a list in the value file is as long as its bound, or longer.
+    ListTooLong,
     /// 17: the result needs more bytes than the buffer has.
     NoRoom,
     /// A number that this crate has no name for. The library that it was written for answers none.
@@ -68,6 +72,8 @@ impl Refusal {
             15 => Self::ValueLength,
             16 => Self::NotOneValue,
             17 => Self::NoRoom,
+            21 => Self::IntegerTooLarge,
+            22 => Self::ListTooLong,
             other => Self::Unknown(other),
         })
     }
@@ -97,6 +103,8 @@ impl Refusal {
             Self::ValueLength => 15,
             Self::NotOneValue => 16,
             Self::NoRoom => 17,
+            Self::IntegerTooLarge => 21,
+            Self::ListTooLong => 22,
             Self::Unknown(number) => number,
         }
     }
@@ -129,6 +137,8 @@ impl Display for Refusal {
             Self::NotOneValue => {
                 "The value file is not one value of the type; for an edit, of the part's type."
             }
+            Self::IntegerTooLarge => "An integer in the value file is too large for its width.",
+            Self::ListTooLong => "A list in the value file is as long as its bound, or longer.",
             Self::NoRoom => "The result needs more bytes than the buffer has.",
             Self::Unknown(number) => {
                 return write!(f, "The library answered {number}, which has no name here.");

@@ -5,7 +5,7 @@ use niegluk::Refusal;
 const README: &str = include_str!("../../../README.md");
 const HEADER: &str = include_str!("../../../include/niegluk.h");
 
-const ALL: [Refusal; 17] = [
+const ALL: [Refusal; 19] = [
     Refusal::TypeLength,
     Refusal::TypeTooLong,
     Refusal::BadRecord,
@@ -22,6 +22,8 @@ const ALL: [Refusal; 17] = [
     Refusal::NoSuchPart,
     Refusal::ValueLength,
     Refusal::NotOneValue,
+    Refusal::IntegerTooLarge,
+    Refusal::ListTooLong,
     Refusal::NoRoom,
 ];
 

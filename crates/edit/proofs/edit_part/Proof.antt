@@ -1,4 +1,4 @@
--- `edit::edit_part` meets its contract. Rows 11 and 12 come from `accept`, rows 13 and 14 and the part's place from `find_part`, rows 15 and 16 from `check_part`;
+-- `edit::edit_part` meets its contract. Rows 11 and 12 come from `accept`, rows 13 and 14 and the part's place from `find_part`, rows 15, 16, 21 and 22 from `check_part`;
 -- the writer then changes the part's own bits and no others. Each answer is one law of `Edits`. Assumes nothing.
 use borrow.Author.Needs.{needs}
 use Rattle.value.proofs.check_part.Reads as check-part-reads

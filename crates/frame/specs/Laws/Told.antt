@@ -21,7 +21,8 @@ use Rattle.structural.specs.Forms.{is-variant}
 use Rattle.structural.specs.Forms as structural
 use Rattle.bits.specs.Bits.{Inside, Wrote}
 use Rattle.bits.specs.Laws.Writing.{wrote-same}
-use Rattle.told.specs.Forms.{rows-from}
+use Rattle.told.specs.Forms.{rows-from, read}
+use Rattle.told.specs.Laws.Seen.{read-some}
 use Rattle.told.specs.Forms as told
 use Rattle.frame.specs.Forms.{place, framed, frame-at, Fitted, Framed}
 
@@ -29,13 +30,13 @@ told-belongs : (d : ℕ) (b : Bool) (s val : List ℕ) (p v : ℕ) (y : SValue �
 unfolding told.told low
 told-belongs d false s val p v y h =
     let t = tree d s p in
-    let (x, e, q) = mapO-some (λ x. (inject t (x .0), v + length (encode t (x .0)))) (parse t (rows-from val v)) y h in
-    let b = inject-belongs t (x .0) (parse-sound t (rows-from val v) x e .valid) in
+    let (x, e, q) = mapO-some (λ x. (inject t (x .0), v + length (encode t (x .0)))) (read (parse t (rows-from val v))) y h in
+    let b = inject-belongs t (x .0) (parse-sound t (rows-from val v) x (read-some (parse t (rows-from val v)) x e) .valid) in
     rw (← q) b
 told-belongs d true s val p v y h =
     let ts = treev d s p in
-    let (x, e, q) = mapO-some (λ x. (tupleOf (injects ts (x .0)), v + length (encodes ts (x .0)))) (parses ts (rows-from val v)) y h in
-    let b = tupleOf-belongs (injects-belong ts (x .0) (parses-sound ts (rows-from val v) x e .valid)) in
+    let (x, e, q) = mapO-some (λ x. (tupleOf (injects ts (x .0)), v + length (encodes ts (x .0)))) (read (parses ts (rows-from val v))) y h in
+    let b = tupleOf-belongs (injects-belong ts (x .0) (parses-sound ts (rows-from val v) x (read-some (parses ts (rows-from val v)) x e) .valid)) in
     rw (← q) b
 
 pub standing-width : (d : ℕ) (s val : List ℕ) (p v : ℕ) (y : SValue × ℕ) → told.standing d s val p v ≡ some y → length (bits place (structural.standing d s p) (y .0)) ≡ width (structural.standing d s p)

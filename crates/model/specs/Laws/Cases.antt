@@ -1,6 +1,6 @@
 -- One table of cases over the operations, bytes in, number and bytes out, that the checker computes from the definitions (`computed`, by refl):
 -- 01's starred cases; for every row of the numbers the smallest input; for two rows that hold at once, the number that comes first;
--- 01's traps; and the other cases along its edges. Every right side is a literal, worked out by hand from 01.
+-- 01's traps; and the other cases along its edges. Every right side is a literal, worked out by hand from 01 and 02.
 use mathlib.Core.Path.{_≡_, refl}
 use mathlib.Core.Bool.{Bool, true, false, _&&_}
 use mathlib.Core.List.{List, [], _∷_, _++_, map}
@@ -132,7 +132,10 @@ three-u4 = hex 8 0x06000003_02000004
 abbrev u4-nothing-u4 : List ℕ
 u4-nothing-u4 = hex 16 0x05000003_02000004_05000000_02000004
 
--- Lists of u1 with bound 4 and 8, of u4 with bound 8
+-- Lists of u1 with bound 2, 4 and 8, of u4 with bound 8
+abbrev list-2 : List ℕ
+list-2 = hex 8 0x07000002_02000001
+
 abbrev list-4 : List ℕ
 list-4 = hex 8 0x07000004_02000001
 
@@ -275,9 +278,12 @@ rows =
     ∷ refuses (framed after boolean []) 15
     ∷ refuses (framed after boolean no-value) 16
     ∷ answers (lowered nothing) [] (17, 0, [])
+    -- a u1 holding 2; a length of 2 in a list of bound 2
+    ∷ refuses (framed after u1 (u1-is 2)) 21
+    ∷ refuses (framed after list-2 (list-of 2)) 22
     ∷ []
 
--- TWO ROWS AT ONCE; the comments name them. Left out is what cannot be: rows 9 and 10 (10 needs a tree), rows 10 and 12 with 1 to 5 (they need a type),
+-- TWO ROWS AT ONCE; the comments name them. Left out is what cannot be: rows 9 and 10 (10 needs a tree), rows 10 and 12 with 1 to 5, 21 and 22 with 2 to 4 (they need a type),
 -- and rows of files that no operation takes together.
 -- In one type file
 
@@ -379,7 +385,63 @@ file-pairs =
     -- 15 and 16: no record; a byte more than one
     ∷ refuses (shaped boolean []) 15
     ∷ refuses (shaped boolean (no-value ++ 0 ∷ [])) 15
-    -- 8 to 16 and 17
+    -- 15 and 21; 15 and 22: a byte more than records
+    ∷ refuses (shaped u1 (u1-is 2 ++ 0 ∷ [])) 15
+    ∷ refuses (shaped list-2 (list-of 2 ++ 0 ∷ [])) 15
+    -- 16 and 21 at one record: choice, bits, kind
+    ∷ refuses (shaped u1 (val 2 1 1 2)) 16
+    ∷ refuses (shaped u1 (val 2 0 2 2)) 16
+    ∷ refuses (shaped u1 (val 2 0 2 9)) 16
+    ∷ refuses (shaped u1 (val 1 0 1 2)) 16
+    -- 16 and 22 at one record: choice, kind, integer
+    ∷ refuses (shaped list-4 (val 7 1 4 0)) 16
+    ∷ refuses (shaped list-4 (val 6 0 4 0)) 16
+    ∷ refuses (shaped list-4 (val 7 0 4 1)) 16
+    -- at two records the earlier one decides: 16 and 21, 16 and 22, 21 and 22, each in both orders
+    ∷ refuses (shaped (two-of ++ boolean ++ u1) (tuple-of 2 ++ bool-is 2 ++ u1-is 2)) 16
+    ∷ refuses (shaped (two-of ++ u1 ++ boolean) (tuple-of 2 ++ u1-is 2 ++ bool-is 2)) 21
+    ∷ refuses (shaped (two-of ++ u1 ++ u1) (tuple-of 2 ++ bool-is 1 ++ u1-is 2)) 16
+    ∷ refuses (shaped (two-of ++ u1 ++ u1) (tuple-of 2 ++ u1-is 2 ++ bool-is 1)) 21
+    ∷ refuses (shaped (two-of ++ boolean ++ list-4) (tuple-of 2 ++ bool-is 2 ++ list-of 4)) 16
+    ∷ refuses (shaped (two-of ++ list-4 ++ boolean) (tuple-of 2 ++ list-of 4 ++ bool-is 2)) 22
+    ∷ refuses (shaped (two-of ++ u1 ++ list-4) (tuple-of 2 ++ u1-is 2 ++ list-of 4)) 21
+    ∷ refuses (shaped (two-of ++ list-4 ++ u1) (tuple-of 2 ++ list-of 4 ++ u1-is 2)) 22
+    -- a parent before its child: a wrong count, a choice of 2, a list at its bound, each over a u1 holding 2
+    ∷ refuses (shaped (two-of ++ u1 ++ u1) (tuple-of 1 ++ u1-is 2)) 16
+    ∷ refuses (shaped (hex 8 0x06000002_02000001) (array-of 1 ++ u1-is 2)) 16
+    ∷ refuses (shaped (options 1 ++ u1) (val 4 2 0 0 ++ u1-is 2)) 16
+    ∷ refuses (shaped list-4 (list-of 4 ++ u1-is 2 ++ u1-is 2 ++ u1-is 2 ++ u1-is 2)) 22
+    ∷ refuses (shaped list-4 (list-of 3 ++ u1-is 1 ++ u1-is 2 ++ u1-is 2)) 21
+    -- before a missing record and before one left over; but leftovers are not looked at
+    ∷ refuses (shaped (two-of ++ u1 ++ boolean) (tuple-of 2 ++ u1-is 2)) 21
+    ∷ refuses (shaped list-4 (list-of 3 ++ u1-is 2)) 21
+    ∷ refuses (shaped u1 (u1-is 2 ++ u1-is 1)) 21
+    ∷ refuses (shaped list-4 (list-of 5)) 22
+    ∷ refuses (shaped list-2 (list-of 2 ++ u1-is 1 ++ u1-is 1 ++ u1-is 1)) 22
+    ∷ refuses (shaped list-4 (list-of 3 ++ u1-is 1)) 16
+    ∷ refuses (shaped u1 (u1-is 1 ++ u1-is 2)) 16
+    -- a variant past the last, before its payload
+    ∷ refuses (shaped variants (variant 3 ++ u1-is 2)) 16
+    ∷ refuses (shaped variants (variant 1 ++ u1-is 2)) 21
+    -- 1, 5, 6 and 7, each and 21 and 22
+    ∷ refuses (shaped (u1 ++ 0 ∷ []) (u1-is 2)) 1
+    ∷ refuses (shaped (list-4 ++ 0 ∷ []) (list-of 4)) 1
+    ∷ refuses (shaped (u1 ++ u1) (u1-is 2)) 5
+    ∷ refuses (shaped (list-4 ++ u1) (list-of 4)) 5
+    ∷ refuses (shaped (two-of ++ u1 ++ never) (tuple-of 2 ++ u1-is 2)) 6
+    ∷ refuses (shaped (two-of ++ list-4 ++ never) (tuple-of 2 ++ list-of 4)) 6
+    ∷ refuses (shaped (two-of ++ u1 ++ large-type) (tuple-of 2 ++ u1-is 2)) 7
+    ∷ refuses (shaped (two-of ++ list-4 ++ large-type) (tuple-of 2 ++ list-of 4)) 7
+    -- 11 to 14, each and 21 and 22
+    ∷ edit-refuses u1 [] [] (u1-is 2) 11
+    ∷ edit-refuses list-4 [] [] (list-of 4) 11
+    ∷ edit-refuses u1 (hex 1 0x40) [] (u1-is 2) 12
+    ∷ edit-refuses list-4 (hex 1 0x40) [] (list-of 4) 12
+    ∷ edit-refuses u1 (hex 1 0) (hex 1 0) (u1-is 2) 13
+    ∷ edit-refuses list-4 (hex 1 0) (hex 1 0) (list-of 4) 13
+    ∷ edit-refuses u1 (hex 1 0) no-path (u1-is 2) 14
+    ∷ edit-refuses list-4 (hex 1 0) no-path (list-of 4) 14
+    -- 8 to 16, 21 and 22, and 17
     ∷ refuses-first (reconstructed nothing long-tree) 8
     ∷ refuses-first (reconstructed nothing []) 9
     ∷ refuses-first (reconstructed boolean (digits 1 0)) 10
@@ -389,6 +451,8 @@ file-pairs =
     ∷ refuses-first (part-read after boolean (hex 1 0) no-path) 14
     ∷ refuses-first (framed after boolean []) 15
     ∷ refuses-first (framed after boolean no-value) 16
+    ∷ refuses-first (framed after u1 (u1-is 2)) 21
+    ∷ refuses-first (framed after list-4 (list-of 4)) 22
     ∷ []
 
 pairs : List Case
@@ -413,7 +477,7 @@ traps =
     ∷ gives (unframed after list-8 (hex 2 0xD800)) (list-of 4 ++ u1-is 1 ++ u1-is 0 ++ u1-is 1 ++ u1-is 1)
     -- and exactly two that remain for the block of 2; one of bound 2
     ∷ gives (framed after list-8 (list-of 6 ++ u1-is 0 ++ u1-is 0 ++ u1-is 0 ++ u1-is 0 ++ u1-is 1 ++ u1-is 1)) (hex 2 0x8700)
-    ∷ gives (framed after (hex 8 0x07000002_02000001) (list-of 1 ++ u1-is 1)) (hex 1 0xC0)
+    ∷ gives (framed after list-2 (list-of 1 ++ u1-is 1)) (hex 1 0xC0)
     -- an Enum of one variant adds no sum
     ∷ gives (lowered (hex 12 0x08000001_09000001_02000001)) (digits 3 100)
     ∷ gives (shaped (hex 12 0x08000001_09000001_02000001) (variant 0 ++ u1-is 1)) (digits 2 20)
@@ -479,7 +543,7 @@ type-edges =
     ∷ gives (lowered (hex 8 0x06000000_01000000)) (digits 1 0)
     ∷ gives (lowered (hex 8 0x06000001_01000000)) (digits 3 100)
     ∷ gives (lowered (hex 8 0x06000003_05000000)) (digits 5 20200)
-    ∷ gives (lowered (hex 8 0x07000002_02000001)) (digits 5 10100)
+    ∷ gives (lowered list-2) (digits 5 10100)
     ∷ gives (lowered (hex 8 0x07000008_05000000)) (digits 19 2102200200210200100)
     ∷ gives (lowered variants) (digits 13 1011002100100)
     ∷ gives (lowered u4-and-list) (digits 31 2221001002100100210210010010100)
@@ -502,9 +566,16 @@ shape-edges =
     ∷ refuses (reconstructed nothing (digits 1 4)) 9
     ∷ refuses (reconstructed nothing (digits 2 30)) 9
     ∷ refuses (reconstructed nothing (digits 2 0)) 9
-    -- 16: four in a list of bound 4; a u1 of 2; a bad choice, n, integer, kind; wrong counts; records missing and left over
-    ∷ refuses (shaped list-4 (list-of 4 ++ u1-is 1 ++ u1-is 0 ++ u1-is 1 ++ u1-is 1)) 16
-    ∷ refuses (shaped u1 (u1-is 2)) 16
+    -- 22: four in a list of bound 4; 16,384 in one of that bound; the largest number of two bytes
+    ∷ refuses (shaped list-4 (list-of 4 ++ u1-is 1 ++ u1-is 0 ++ u1-is 1 ++ u1-is 1)) 22
+    ∷ refuses (shaped (hex 8 0x07004000_05000000) (list-of 16384)) 22
+    ∷ refuses (shaped list-2 (list-of 65535)) 22
+    -- 21: a u1 of 2, a u8 of 256, the highest of the 256 bits; every integer fits a u256
+    ∷ refuses (shaped u1 (u1-is 2)) 21
+    ∷ refuses (shaped (hex 4 0x02000008) (val 2 0 8 256)) 21
+    ∷ refuses (shaped u1 (2 ∷ 0 ∷ hex 2 1 ++ 128 ∷ replicate 31 0)) 21
+    ∷ gives (framed after u256 (2 ∷ 0 ∷ hex 2 256 ++ replicate 32 255)) (replicate 32 255)
+    -- 16: a bad choice, n, integer, kind; wrong counts; records missing and left over
     ∷ refuses (shaped boolean (val 1 2 0 0)) 16
     ∷ refuses (shaped boolean (val 1 0 1 0)) 16
     ∷ refuses (shaped boolean (val 1 0 0 1)) 16
@@ -620,7 +691,13 @@ edit-edges =
     ∷ edits variants (hex 1 0xE0) (hex 2 1) (bool-is 1) (hex 1 0xF0)
     -- the new value must have the part's type, not another's
     ∷ edit-refuses u4-and-list (hex 2 0x9180) (hex 2 0) (u1-is 1) 16
-    ∷ edit-refuses u4-and-list (hex 2 0x9180) (hex 2 1) (list-of 4 ++ u1-is 1 ++ u1-is 0 ++ u1-is 1 ++ u1-is 1) 16
+    ∷ edit-refuses u4-and-list (hex 2 0x9180) (hex 2 1) (list-of 4 ++ u1-is 1 ++ u1-is 0 ++ u1-is 1 ++ u1-is 1) 22
+    ∷ edit-refuses u4-and-list (hex 2 0x9180) (hex 2 0) (u4-is 16) 21
+    ∷ edit-refuses u4-and-list (hex 2 0x9180) (hex 2 0) (u4-is 16 ++ u4-is 6) 21
+    ∷ edit-refuses u4-and-list (hex 2 0x9180) [] (tuple-of 2 ++ u4-is 16 ++ list-of 4) 21
+    ∷ edit-refuses u4-and-list (hex 2 0x9180) [] (tuple-of 2 ++ u4-is 9 ++ list-of 4) 22
+    ∷ edit-refuses u4-and-list (hex 2 0x9180) [] (tuple-of 2 ++ u4-is 9 ++ list-of 1 ++ u1-is 2) 21
+    ∷ edit-refuses u4-and-list (hex 2 0x9180) [] (tuple-of 2 ++ bool-is 0 ++ list-of 4) 16
     ∷ edit-refuses u4-and-list (hex 2 0x9180) (hex 2 0) (u4-is 6 ++ u4-is 6) 16
     ∷ edit-refuses u4-and-list (hex 2 0x9180) (hex 2 0) nine-and-one 16
     ∷ edit-refuses u4-or-bool (hex 1 0xC0) (hex 2 0) (u4-is 9) 14

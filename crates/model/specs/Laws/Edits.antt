@@ -1,7 +1,6 @@
 -- Demand 3 of the operation: whatever is delivered of an edit is as `Edits` says.
 use mathlib.Core.Path.{_≡_, refl, sym, ap, subst, _∙_}
 use mathlib.Core.List.{List}
-use mathlib.Core.Logic.{_⊎_, inl, inr}
 use Prim.Native.Nat.{ℕ, _≤_}
 use native.Mathlib.Omega.{arith}
 use lib.ListN.{length}
@@ -13,7 +12,7 @@ use Rattle.model.specs.Operations.{edited, delivered}
 use Rattle.model.specs.Conditions.{PathLeads, HasType}
 use Rattle.model.specs.Edits.{Replaced, Edited}
 use Rattle.model.specs.Laws.Outcome.{refused-done, done-injective}
-use Rattle.model.specs.Laws.Numbered.{Rows, edited-row}
+use Rattle.model.specs.Laws.Numbered.{never-zero, edited-row}
 use Rattle.model.specs.Laws.Demands.{edit-leaves, edit-accepted, edit-in-place, edit-refused}
 
 module _ (p : Place) (ty frame path val : List ℕ) (b : Bytes ty) (c : Bytes frame) (d : Bytes val) (n len : ℕ) (left : List ℕ) where
@@ -24,11 +23,6 @@ module _ (p : Place) (ty frame path val : List ℕ) (b : Bytes ty) (c : Bytes fr
   replaced-there e target leads has =
       let (result, r, g) = edit-leaves p ty frame path val b c d target leads has in
       subst (Replaced p ty frame path val target (leads .old) (has .0)) (done-injective result left (sym g ∙ e)) r
-
-  -- the table has no row 0
-  row-some : {m : ℕ} → Rows 1 7 m ⊎ Rows 11 16 m → 1 ≤ m
-  row-some (inl r) = r .0
-  row-some (inr r) = omega (arith, r .0)
 
   pub edit-answered : _≡_ {A = ℕ × ℕ × List ℕ} (n, len, left) (delivered (edited p ty frame path val) frame) → Edited p ty frame path val n len left
   edit-answered h = go (edited p ty frame path val) refl
@@ -51,7 +45,7 @@ module _ (p : Place) (ty frame path val : List ℕ) (b : Bytes ty) (c : Bytes fr
           let same : n ≡ m = ap (λ (x : Answer). x .0) k in
           let none : len ≡ 0 = ap (λ (x : Answer). x .1) k in
           let kept : left ≡ frame = ap (λ (x : Answer). x .2) k in
-          let some : 1 ≤ m = row-some (edited-row p ty frame path val m e) in
+          let some : 1 ≤ m = never-zero (edited-row p ty frame path val) refl m e in
           record {
             accepted = ((λ i. absurd (omega arith)), λ a. let (result, g) = edit-accepted p ty frame path val b c d .1 a in absurd (refused-done m result (sym e ∙ g)));
             length-is = λ i. absurd (omega arith);

@@ -23,6 +23,10 @@ pub outcome-step : {A B : Type 0} (o : Outcome A) (f : A → Outcome B) (b : B) 
 outcome-step (done a) f b h = (a, refl, h)
 outcome-step (refused n) f b h = absurd (refused-done n b h)
 
+-- what is made of a result
+pub outcome-made : {A B : Type 0} (o : Outcome A) (f : A → B) (b : B) → (o >>= λ a. done (f a)) ≡ done b → (a : A) × (o ≡ done a) × (f a ≡ b)
+outcome-made o f b h = let (a, e, k) = outcome-step o (λ a. done (f a)) b h in (a, e, done-injective (f a) b k)
+
 -- a row before a result: its test does not hold
 pub refuse-step : {A : Type 0} (n : ℕ) (b : Bool) (o : Outcome A) (x : A) → (refuse n b >> o) ≡ done x → (b ≡ false) × (o ≡ done x)
 refuse-step n true o x h = absurd (refused-done n x h)
@@ -42,9 +46,9 @@ all-read-done {A} {X} n x a h = go (x .0) (x .1) h
     go y (r ∷ rs) m = absurd (refused-done n a m)
 
 -- what was read, with nothing left behind it
-pub whole-read : {A X : Type 0} (n : ℕ) (o : Option (A × List X)) (a : A) → (or-refuse n o >>= all-read n) ≡ done a → o ≡ some (a, [])
-whole-read n none a h = absurd (refused-done n a h)
-whole-read {A} {X} n (some x) a h = let (e, f) = all-read-done n x a h in ap {B = Option (A × List X)} some (λ i. (f i, e i))
+pub whole-read : {A X : Type 0} (n : ℕ) (o : Outcome (A × List X)) (a : A) → (o >>= all-read n) ≡ done a → o ≡ done (a, [])
+whole-read n (refused m) a h = absurd (refused-done m a h)
+whole-read {A} {X} n (done x) a h = let (e, f) = all-read-done n x a h in ap {B = Outcome (A × List X)} done (λ i. (f i, e i))
 
 -- neither of two tests holds
 pub or-false : (a b : Bool) → a || b ≡ false → (a ≡ false) × (b ≡ false)

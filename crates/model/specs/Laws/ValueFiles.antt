@@ -1,44 +1,39 @@
 -- The two laws of value files of a type: what is written is read as itself, and what is read is exactly what the writer makes. First over records, then over bytes.
 use mathlib.Core.Path.{_≡_, refl, sym, ap, ap₂, _∙_}
-use mathlib.Core.Logic.{_⊎_, inl, inr}
+use mathlib.Core.Logic.{_⊎_, inl, inr, _↔_}
 use mathlib.Core.List.{List, [], _∷_, _++_, map, append-assoc, append-nil}
-use mathlib.Core.Bool.{Bool, true, false, _&&_, _||_, not}
-use mathlib.Core.Option.{Option, none, some, Option·none-ne-some, Option·some-injective}
+use mathlib.Core.Bool.{Bool, true, false, _&&_, _||_, not, and-eq-true-iff}
+use mathlib.Core.Option.{none, some}
 use Prim.Native.Nat.{ℕ, zero, suc, _+_, _*_, _%_, _/_, _≤_, _<_, _^_}
 use native.Mathlib.Omega.{arith}
 use native.Mathlib.Nat.{one-le-pow, le-trans, pow-le-pow-right}
-use lib.Dec.{eqb, ltb, lit<, lit≤}
+use lib.Dec.{eqb, leb, lit<}
 use lib.ListN.{length}
-use borrow.Author.Tests.{eqb-true, eq-eqb, ne-eqb, ltb-true, lt-ltb}
-use Rattle.model.specs.Options.{pick, when, flatMap, one-of, All}
+use borrow.Author.Tests.{eqb-true, eq-eqb, ne-eqb, leb-false, lt-leb, not-false}
+use Rattle.model.specs.Options.{pick, flatMap, one-of, All}
 use Rattle.model.specs.Types.{Ty, Tys, Variants, never, bool, uint, either, option, tuple, array, list, enum, nil, cons, last, more, size, count}
 use Rattle.model.specs.Values.{Value, Values, Choice, Valid, Valids, ValidChoice, index, inject}
-use Rattle.model.specs.ValueFiles.{Rec, rec, same, encode, encodes, encode-choice, Reader, made, many, parse, parse-at, parses, parse-choice, value-record, value-bytes, value-file, value-of}
+use Rattle.model.specs.ValueFiles.{Rec, rec, same, must-be, encode, encodes, encode-choice, Reader, made, many, parse, parse-at, parses, parse-choice, value-record, value-bytes, value-file, value-of}
 use Rattle.model.specs.Bytes.{Bytes, records}
 use Rattle.model.specs.TypeFiles.{widths}
-use Rattle.model.specs.Numbers.{value-length, not-one-value}
-use Rattle.model.specs.Outcome.{done, _>>=_, _>>_, or-refuse, all-read}
-use Rattle.model.specs.Laws.Outcome.{refuse-step, whole-read, length-row}
+use Rattle.model.specs.Numbers.{value-length, not-one-value, integer-too-large, list-too-long}
+use Rattle.model.specs.Outcome.{Outcome, done, _>>=_, _>>_, all-read}
+use Rattle.model.specs.Laws.Options.{one-of-all}
+use Rattle.model.specs.Laws.Outcome.{refused-done, done-injective, outcome-step, outcome-made, refuse-step, whole-read, length-row}
 use Rattle.model.specs.Laws.Shapes.{index-count}
-use Rattle.model.specs.Laws.Options.{bindO-some, mapO-some}
 use Rattle.model.specs.Laws.Bytes.{number-in-bytes, in-bytes-number, length-in-bytes, bytes-in-bytes}
 use Rattle.model.specs.Laws.Records.{two-of, all-append, all-flatMap, length-written, read-written, written-read}
 use Rattle.model.specs.Laws.TypeFiles.{Allowed, AllowedAll, AllowedVariants}
 
 -- RECORDS
 
-and-left : (a b : Bool) → a && b ≡ true → (a ≡ true) × (b ≡ true)
-and-left true true h = (refl, refl)
-and-left true false h = (refl, h)
-and-left false b h = let z : _≡_ {A = ℕ} 0 1 = cc in absurd (omega arith)
-
 pub same-eq : (r s : Rec) → same r s ≡ true → r ≡ s
 unfolding same
 same-eq r s h =
     let a = eqb (r .kind) (s .kind) in let b = eqb (r .choice) (s .choice) in let c = eqb (r .n) (s .n) in let d = eqb (r .integer) (s .integer) in
-    let x = and-left (a && b && c) d h in
-    let y = and-left (a && b) c (x .0) in
-    let z = and-left a b (y .0) in
+    let x = and-eq-true-iff (a && b && c) d .0 h in
+    let y = and-eq-true-iff (a && b) c .0 (x .0) in
+    let z = and-eq-true-iff a b .0 (y .0) in
     λ i. record { kind = eqb-true (r .kind) (s .kind) (z .0) i; choice = eqb-true (r .choice) (s .choice) (z .1) i; n = eqb-true (r .n) (s .n) (y .1) i; integer = eqb-true (r .integer) (s .integer) (x .1) i }
 
 other : (same (rec 1 1 0 0) (rec 1 0 0 0) ≡ false) × (same (rec 3 1 0 0) (rec 3 0 0 0) ≡ false) × (same (rec 4 1 0 0) (rec 4 0 0 0) ≡ false)
@@ -51,32 +46,32 @@ same-refl r = rw (eq-eqb (r .kind) (r .kind) refl, eq-eqb (r .choice) (r .choice
 
 -- reading what was written
 
-many-encode : {A : Type 0} (P : A → Type 0) (f : Reader A) (g : A → List Rec) → ((x : A) (rs : List Rec) → P x → f (g x ++ rs) ≡ some (x, rs)) → (xs : List A) (rs : List Rec) → All P xs → many f (length xs) (flatMap g xs ++ rs) ≡ some (xs, rs)
+many-encode : {A : Type 0} (P : A → Type 0) (f : Reader A) (g : A → List Rec) → ((x : A) (rs : List Rec) → P x → f (g x ++ rs) ≡ done (x, rs)) → (xs : List A) (rs : List Rec) → All P xs → many f (length xs) (flatMap g xs ++ rs) ≡ done (xs, rs)
 many-encode P f g h [] rs k = refl
 many-encode P f g h (x ∷ xs) rs k = rw (append-assoc (g x) (flatMap g xs) rs, h x (flatMap g xs ++ rs) (k .0), many-encode P f g h xs rs (k .1))
 
 mutual
   unfolding encode parse-at inject
 
-  pub parse-encode : (t : Ty) (v : Value t) (rs : List Rec) → Valid t v → parse t (encode t v ++ rs) ≡ some (v, rs)
+  pub parse-encode : (t : Ty) (v : Value t) (rs : List Rec) → Valid t v → parse t (encode t v ++ rs) ≡ done (v, rs)
   parse-encode never v rs h = absurd v
   parse-encode bool true rs h = rw (other .0, same-refl (rec 1 1 0 0))
   parse-encode bool false rs h = rw (same-refl (rec 1 0 0 0))
-  parse-encode (uint k) n rs h = rw (same-refl (rec 2 0 k n), lt-ltb n (2 ^ k) h)
+  parse-encode (uint k) n rs h = rw (same-refl (rec 2 0 k n), lt-leb (2 ^ k) n h)
   parse-encode (either a b) (inl x) rs h = rw (same-refl (rec 3 0 0 0), parse-encode a x rs h)
   parse-encode (either a b) (inr y) rs h = rw (other .1, same-refl (rec 3 1 0 0), parse-encode b y rs h)
   parse-encode (option a) none rs h = rw (same-refl (rec 4 0 0 0))
   parse-encode (option a) (some x) rs h = rw (other .2, same-refl (rec 4 1 0 0), parse-encode a x rs h)
   parse-encode (tuple ts) v rs h = rw (same-refl (rec 5 0 (size ts) 0)) (parses-encodes ts v rs h)
   parse-encode (array a n) xs rs h = rw (same-refl (rec 6 0 n 0), ← h .0) (many-encode (Valid a) (parse a) (encode a) (parse-encode a) xs rs (h .1))
-  parse-encode (list a e) xs rs h = rw (same-refl (rec 7 0 (length xs) 0), lt-ltb (length xs) (2 ^ suc e) (h .0)) (many-encode (Valid a) (parse a) (encode a) (parse-encode a) xs rs (h .1))
+  parse-encode (list a e) xs rs h = rw (same-refl (rec 7 0 (length xs) 0), lt-leb (2 ^ suc e) (length xs) (h .0)) (many-encode (Valid a) (parse a) (encode a) (parse-encode a) xs rs (h .1))
   parse-encode (enum vs) c rs h = rw (same-refl (rec 8 0 (index vs c) 0)) (parse-choice-encode vs c rs h)
 
-  pub parses-encodes : (ts : Tys) (v : Values ts) (rs : List Rec) → Valids ts v → parses ts (encodes ts v ++ rs) ≡ some (v, rs)
+  pub parses-encodes : (ts : Tys) (v : Values ts) (rs : List Rec) → Valids ts v → parses ts (encodes ts v ++ rs) ≡ done (v, rs)
   parses-encodes nil v rs h = refl
   parses-encodes (cons t ts) v rs h = rw (append-assoc (encode t (v .0)) (encodes ts (v .1)) rs, parse-encode t (v .0) (encodes ts (v .1) ++ rs) (h .0), parses-encodes ts (v .1) rs (h .1))
 
-  pub parse-choice-encode : (vs : Variants) (c : Choice vs) (rs : List Rec) → ValidChoice vs c → parse-choice vs (index vs c) (encode-choice vs c ++ rs) ≡ some (c, rs)
+  pub parse-choice-encode : (vs : Variants) (c : Choice vs) (rs : List Rec) → ValidChoice vs c → parse-choice vs (index vs c) (encode-choice vs c ++ rs) ≡ done (c, rs)
   parse-choice-encode (last ts) c rs h = parses-encodes ts c rs h
   parse-choice-encode (more ts vs) (inl c) rs h = rw (parses-encodes ts c rs h)
   parse-choice-encode (more ts vs) (inr c) rs h = rw (parse-choice-encode vs c rs h)
@@ -89,15 +84,15 @@ pub record Wrote {A : Type 0} (P : A → Type 0) (g : A → List Rec) (rs : List
 
 -- a reader that gives only what the writer g wrote
 abbrev pub Sound : {A : Type 0} → (A → Type 0) → (A → List Rec) → Reader A → Type 0
-Sound {A} P g f = (rs : List Rec) (x : A × List Rec) → f rs ≡ some x → Wrote P g rs x
+Sound {A} P g f = (rs : List Rec) (x : A × List Rec) → f rs ≡ done x → Wrote P g rs x
 
-when-true : {A : Type 0} (b : Bool) (o : Option A) (x : A) → when b o ≡ some x → (b ≡ true) × (o ≡ some x)
-when-true true o x h = (refl, h)
-when-true false o x h = absurd (Option·none-ne-some x h)
+-- a record that must be this one is, where there is a result
+must-be-done : {A : Type 0} (r s : Rec) (o : Outcome A) (x : A) → (must-be r s >> o) ≡ done x → (same r s ≡ true) × (o ≡ done x)
+must-be-done r s o x h = let (e, k) = refuse-step not-one-value (not (same r s)) o x h in (not-false (same r s) e, k)
 
 made-sound : {A B : Type 0} (P : A → Type 0) (Q : B → Type 0) (g : A → List Rec) (k : B → List Rec) (c : A → B) (f : Reader A) → Sound P g f → ((a : A) → P a → Q (c a)) → ((a : A) → k (c a) ≡ g a) → Sound Q k (λ rs. made c (f rs))
 made-sound P Q g k c f s q e rs x h =
-    let (y, l, m) = mapO-some (λ z. (c (z .0), z .1)) (f rs) x h in
+    let (y, l, m) = outcome-made (f rs) (λ z. (c (z .0), z .1)) x h in
     let w = s rs y l in
     rw (← m) (record { valid = q (y .0) (w .valid); back = w .back ∙ ap (λ l. l ++ y .1) (sym (e (y .0))) })
 
@@ -105,15 +100,15 @@ cons-back : {A : Type 0} (P : A → Type 0) (g : A → List Rec) (rs : List Rec)
 cons-back P g rs y z u v = record { valid = (u .valid, v .valid); back = u .back ∙ ap (λ l. g (y .0) ++ l) (v .back) ∙ sym (append-assoc (g (y .0)) (flatMap g (z .0)) (z .1)) }
 
 many-sound : {A : Type 0} (P : A → Type 0) (g : A → List Rec) (f : Reader A) → Sound P g f → (n : ℕ) → Sound (λ xs. (length xs ≡ n) × All P xs) (flatMap g) (many f n)
-many-sound P g f s zero rs x h = rw (← Option·some-injective _ _ h) (record { valid = (refl, tt); back = refl })
+many-sound P g f s zero rs x h = rw (← done-injective _ _ h) (record { valid = (refl, tt); back = refl })
 many-sound P g f s (suc n) rs x h =
-    let (y, l, m) = bindO-some (f rs) _ x h in
-    let (z, u, v) = mapO-some (λ w. (y .0 ∷ w .0, w .1)) (many f n (y .1)) x m in
+    let (y, l, m) = outcome-step (f rs) _ x h in
+    let (z, u, v) = outcome-made (many f n (y .1)) (λ w. (y .0 ∷ w .0, w .1)) x m in
     let q = many-sound P g f s n (y .1) z u in
     let r = cons-back P g rs y z (s rs y l) (record { valid = q .valid .1; back = q .back }) in
     rw (← v) (record { valid = (ap suc (q .valid .0), r .valid); back = r .back })
 
-pick-cases : {A : Type 0} (b : Bool) (o q : Option A) (x : A) → pick b o q ≡ some x → ((b ≡ true) × (o ≡ some x)) ⊎ (q ≡ some x)
+pick-cases : {A : Type 0} (b : Bool) (o q : Outcome A) (x : A) → pick b o q ≡ done x → ((b ≡ true) × (o ≡ done x)) ⊎ (q ≡ done x)
 pick-cases true o q x h = inl (refl, h)
 pick-cases false o q x h = inr h
 
@@ -121,12 +116,12 @@ pick-cases false o q x h = inr h
 headed : {A : Type 0} (P : A → Type 0) (g : A → List Rec) (hd : Rec) (r : Rec) (rs : List Rec) (x : A × List Rec) → same r hd ≡ true → Wrote P g rs x → Wrote P (λ v. hd ∷ g v) (r ∷ rs) x
 headed P g hd r rs x h w = record { valid = w .valid; back = ap₂ {C = List Rec} _∷_ (same-eq r hd h) (w .back) }
 
-one : {A : Type 0} (P : A → Type 0) (k : A → List Rec) (hd r : Rec) (rs : List Rec) (v : A) (x : A × List Rec) → same r hd ≡ true → some (v, rs) ≡ some x → P v → k v ≡ hd ∷ [] → Wrote P k (r ∷ rs) x
-one P k hd r rs v x h e p q = rw (← Option·some-injective (v, rs) x e) (record { valid = p; back = ap {B = List Rec} (λ y. y ∷ rs) (same-eq r hd h) ∙ sym (ap (λ l. l ++ rs) q) })
+one : {A : Type 0} (P : A → Type 0) (k : A → List Rec) (hd r : Rec) (rs : List Rec) (v : A) (x : A × List Rec) → same r hd ≡ true → done (v, rs) ≡ done x → P v → k v ≡ hd ∷ [] → Wrote P k (r ∷ rs) x
+one P k hd r rs v x h e p q = rw (← done-injective (v, rs) x e) (record { valid = p; back = ap {B = List Rec} (λ y. y ∷ rs) (same-eq r hd h) ∙ sym (ap (λ l. l ++ rs) q) })
 
-headed-made : {A B : Type 0} (P : A → Type 0) (Q : B → Type 0) (g : A → List Rec) (k : B → List Rec) (c : A → B) (hd r : Rec) (rs : List Rec) (f : Reader A) (x : B × List Rec) → Sound P g f → same r hd ≡ true → made c (f rs) ≡ some x → ((a : A) → P a → Q (c a)) → ((a : A) → k (c a) ≡ hd ∷ g a) → Wrote Q k (r ∷ rs) x
+headed-made : {A B : Type 0} (P : A → Type 0) (Q : B → Type 0) (g : A → List Rec) (k : B → List Rec) (c : A → B) (hd r : Rec) (rs : List Rec) (f : Reader A) (x : B × List Rec) → Sound P g f → same r hd ≡ true → made c (f rs) ≡ done x → ((a : A) → P a → Q (c a)) → ((a : A) → k (c a) ≡ hd ∷ g a) → Wrote Q k (r ∷ rs) x
 headed-made P Q g k c hd r rs f x s h e q l =
-    let (y, m, n) = mapO-some (λ z. (c (z .0), z .1)) (f rs) x e in
+    let (y, m, n) = outcome-made (f rs) (λ z. (c (z .0), z .1)) x e in
     let w = s rs y m in
     rw (← n) (record { valid = q (y .0) (w .valid); back = ap₂ {C = List Rec} _∷_ (same-eq r hd h) (w .back) ∙ sym (ap (λ z. z ++ y .1) (l (y .0))) })
 
@@ -134,51 +129,51 @@ sized : {A : Type 0} (P : A → Type 0) (Q : A → Type 0) (g : A → List Rec) 
     → Wrote P (λ a. rec k 0 (count a) 0 ∷ g a) (r ∷ rs) x
 sized P Q g count k r rs x h w f = record { valid = f (x .0) (w .valid .0) (w .valid .1); back = ap₂ {C = List Rec} _∷_ (same-eq r (rec k 0 (r .n) 0) h ∙ ap (λ n. rec k 0 n 0) (sym (w .valid .1))) (w .back) }
 
-bool-sound : (r : Rec) (rs : List Rec) (x : Bool × List Rec) → parse-at bool r rs ≡ some x → Wrote (Valid bool) (encode bool) (r ∷ rs) x
+bool-sound : (r : Rec) (rs : List Rec) (x : Bool × List Rec) → parse-at bool r rs ≡ done x → Wrote (Valid bool) (encode bool) (r ∷ rs) x
 unfolding parse-at encode
 bool-sound r rs x h = go (pick-cases _ _ _ x h)
   where
-    go : ((same r (rec 1 0 0 0) ≡ true) × (some (false, rs) ≡ some x)) ⊎ (when (same r (rec 1 1 0 0)) (some (true, rs)) ≡ some x) → Wrote (Valid bool) (encode bool) (r ∷ rs) x
+    go : ((same r (rec 1 0 0 0) ≡ true) × (done (false, rs) ≡ done x)) ⊎ ((must-be r (rec 1 1 0 0) >> done (true, rs)) ≡ done x) → Wrote (Valid bool) (encode bool) (r ∷ rs) x
     go (inl e) = one (Valid bool) (encode bool) (rec 1 0 0 0) r rs false x (e .0) (e .1) tt refl
-    go (inr e) = let k = when-true _ _ x e in one (Valid bool) (encode bool) (rec 1 1 0 0) r rs true x (k .0) (k .1) tt refl
+    go (inr e) = let k = must-be-done _ _ _ x e in one (Valid bool) (encode bool) (rec 1 1 0 0) r rs true x (k .0) (k .1) tt refl
 
-uint-sound : (k : ℕ) (r : Rec) (rs : List Rec) (x : ℕ × List Rec) → parse-at (uint k) r rs ≡ some x → Wrote (Valid (uint k)) (encode (uint k)) (r ∷ rs) x
+uint-sound : (k : ℕ) (r : Rec) (rs : List Rec) (x : ℕ × List Rec) → parse-at (uint k) r rs ≡ done x → Wrote (Valid (uint k)) (encode (uint k)) (r ∷ rs) x
 unfolding parse-at encode
 uint-sound k r rs x h =
-    let w = when-true _ _ x h in
-    let b = and-left (same r (rec 2 0 k (r .integer))) (ltb (r .integer) (2 ^ k)) (w .0) in
-    one (Valid (uint k)) (encode (uint k)) (rec 2 0 k (r .integer)) r rs (r .integer) x (b .0) (w .1) (ltb-true _ _ (b .1)) refl
+    let (e, w) = must-be-done _ _ _ x h in
+    let (l, d) = refuse-step integer-too-large (leb (2 ^ k) (r .integer)) (done (r .integer, rs)) x w in
+    one (Valid (uint k)) (encode (uint k)) (rec 2 0 k (r .integer)) r rs (r .integer) x e d (leb-false _ _ l) refl
 
-either-sound : (a b : Ty) → Sound (Valid a) (encode a) (parse a) → Sound (Valid b) (encode b) (parse b) → (r : Rec) (rs : List Rec) (x : Value (either a b) × List Rec) → parse-at (either a b) r rs ≡ some x → Wrote (Valid (either a b)) (encode (either a b)) (r ∷ rs) x
+either-sound : (a b : Ty) → Sound (Valid a) (encode a) (parse a) → Sound (Valid b) (encode b) (parse b) → (r : Rec) (rs : List Rec) (x : Value (either a b) × List Rec) → parse-at (either a b) r rs ≡ done x → Wrote (Valid (either a b)) (encode (either a b)) (r ∷ rs) x
 unfolding parse-at encode
 either-sound a b f g r rs x h = go (pick-cases _ _ _ x h)
   where
-    go : ((same r (rec 3 0 0 0) ≡ true) × (made inl (parse a rs) ≡ some x)) ⊎ (when (same r (rec 3 1 0 0)) (made inr (parse b rs)) ≡ some x) → Wrote (Valid (either a b)) (encode (either a b)) (r ∷ rs) x
+    go : ((same r (rec 3 0 0 0) ≡ true) × (made inl (parse a rs) ≡ done x)) ⊎ ((must-be r (rec 3 1 0 0) >> made inr (parse b rs)) ≡ done x) → Wrote (Valid (either a b)) (encode (either a b)) (r ∷ rs) x
     go (inl e) = headed-made (Valid a) (Valid (either a b)) (encode a) (encode (either a b)) inl (rec 3 0 0 0) r rs (parse a) x f (e .0) (e .1) (λ y o. o) (λ y. refl)
-    go (inr e) = let k = when-true _ _ x e in headed-made (Valid b) (Valid (either a b)) (encode b) (encode (either a b)) inr (rec 3 1 0 0) r rs (parse b) x g (k .0) (k .1) (λ y o. o) (λ y. refl)
+    go (inr e) = let k = must-be-done _ _ _ x e in headed-made (Valid b) (Valid (either a b)) (encode b) (encode (either a b)) inr (rec 3 1 0 0) r rs (parse b) x g (k .0) (k .1) (λ y o. o) (λ y. refl)
 
-option-sound : (a : Ty) → Sound (Valid a) (encode a) (parse a) → (r : Rec) (rs : List Rec) (x : Value (option a) × List Rec) → parse-at (option a) r rs ≡ some x → Wrote (Valid (option a)) (encode (option a)) (r ∷ rs) x
+option-sound : (a : Ty) → Sound (Valid a) (encode a) (parse a) → (r : Rec) (rs : List Rec) (x : Value (option a) × List Rec) → parse-at (option a) r rs ≡ done x → Wrote (Valid (option a)) (encode (option a)) (r ∷ rs) x
 unfolding parse-at encode
 option-sound a f r rs x h = go (pick-cases _ _ _ x h)
   where
-    go : ((same r (rec 4 0 0 0) ≡ true) × (some (none, rs) ≡ some x)) ⊎ (when (same r (rec 4 1 0 0)) (made some (parse a rs)) ≡ some x) → Wrote (Valid (option a)) (encode (option a)) (r ∷ rs) x
+    go : ((same r (rec 4 0 0 0) ≡ true) × (done (none, rs) ≡ done x)) ⊎ ((must-be r (rec 4 1 0 0) >> made some (parse a rs)) ≡ done x) → Wrote (Valid (option a)) (encode (option a)) (r ∷ rs) x
     go (inl e) = one (Valid (option a)) (encode (option a)) (rec 4 0 0 0) r rs none x (e .0) (e .1) tt refl
-    go (inr e) = let k = when-true _ _ x e in headed-made (Valid a) (Valid (option a)) (encode a) (encode (option a)) some (rec 4 1 0 0) r rs (parse a) x f (k .0) (k .1) (λ y o. o) (λ y. refl)
+    go (inr e) = let k = must-be-done _ _ _ x e in headed-made (Valid a) (Valid (option a)) (encode a) (encode (option a)) some (rec 4 1 0 0) r rs (parse a) x f (k .0) (k .1) (λ y o. o) (λ y. refl)
 
-list-sound : (a : Ty) (e : ℕ) → Sound (Valid a) (encode a) (parse a) → (r : Rec) (rs : List Rec) (x : Value (list a e) × List Rec) → parse-at (list a e) r rs ≡ some x → Wrote (Valid (list a e)) (encode (list a e)) (r ∷ rs) x
+list-sound : (a : Ty) (e : ℕ) → Sound (Valid a) (encode a) (parse a) → (r : Rec) (rs : List Rec) (x : Value (list a e) × List Rec) → parse-at (list a e) r rs ≡ done x → Wrote (Valid (list a e)) (encode (list a e)) (r ∷ rs) x
 unfolding parse-at encode
 list-sound a e f r rs x h =
-    let w = when-true _ _ x h in
-    let b = and-left (same r (rec 7 0 (r .n) 0)) (ltb (r .n) (2 ^ suc e)) (w .0) in
-    let l : r .n < 2 ^ suc e = ltb-true _ _ (b .1) in
-    let q = many-sound (Valid a) (encode a) (parse a) f (r .n) rs x (w .1) in
-    sized (Valid (list a e)) (All (Valid a)) (flatMap (encode a)) length 7 r rs x (b .0) (record { valid = (q .valid .1, q .valid .0); back = q .back }) (λ y o m. (rw m l, o))
+    let (k, w) = must-be-done _ _ _ x h in
+    let (b, d) = refuse-step list-too-long (leb (2 ^ suc e) (r .n)) (many (parse a) (r .n) rs) x w in
+    let l : r .n < 2 ^ suc e = leb-false _ _ b in
+    let q = many-sound (Valid a) (encode a) (parse a) f (r .n) rs x d in
+    sized (Valid (list a e)) (All (Valid a)) (flatMap (encode a)) length 7 r rs x k (record { valid = (q .valid .1, q .valid .0); back = q .back }) (λ y o m. (rw m l, o))
 
 cons-sound : (t : Ty) (ts : Tys) → Sound (Valid t) (encode t) (parse t) → Sound (Valids ts) (encodes ts) (parses ts) → Sound (Valids (cons t ts)) (encodes (cons t ts)) (parses (cons t ts))
 unfolding parse-at encode
 cons-sound t ts f g rs x h =
-    let (y, l, m) = bindO-some (parse t rs) _ x h in
-    let (z, u, v) = mapO-some (λ w. ((y .0, w .0), w .1)) (parses ts (y .1)) x m in
+    let (y, l, m) = outcome-step (parse t rs) _ x h in
+    let (z, u, v) = outcome-made (parses ts (y .1)) (λ w. ((y .0, w .0), w .1)) x m in
     let p = f rs y l in
     let q = g (y .1) z u in
     rw (← v) (record { valid = (p .valid, q .valid); back = p .back ∙ ap (λ k. encode t (y .0) ++ k) (q .back) ∙ sym (append-assoc (encode t (y .0)) (encodes ts (z .0)) (z .1)) })
@@ -187,32 +182,32 @@ mutual
   unfolding encode parse-at inject
 
   pub parse-sound : (t : Ty) → Sound (Valid t) (encode t) (parse t)
-  parse-sound never [] x h = absurd (Option·none-ne-some x h)
-  parse-sound never (r ∷ rs) x h = absurd (Option·none-ne-some x h)
-  parse-sound bool [] x h = absurd (Option·none-ne-some x h)
+  parse-sound never [] x h = absurd (refused-done not-one-value x h)
+  parse-sound never (r ∷ rs) x h = absurd (refused-done not-one-value x h)
+  parse-sound bool [] x h = absurd (refused-done not-one-value x h)
   parse-sound bool (r ∷ rs) x h = bool-sound r rs x h
-  parse-sound (uint k) [] x h = absurd (Option·none-ne-some x h)
+  parse-sound (uint k) [] x h = absurd (refused-done not-one-value x h)
   parse-sound (uint k) (r ∷ rs) x h = uint-sound k r rs x h
-  parse-sound (either a b) [] x h = absurd (Option·none-ne-some x h)
+  parse-sound (either a b) [] x h = absurd (refused-done not-one-value x h)
   parse-sound (either a b) (r ∷ rs) x h = either-sound a b (parse-sound a) (parse-sound b) r rs x h
-  parse-sound (option a) [] x h = absurd (Option·none-ne-some x h)
+  parse-sound (option a) [] x h = absurd (refused-done not-one-value x h)
   parse-sound (option a) (r ∷ rs) x h = option-sound a (parse-sound a) r rs x h
-  parse-sound (tuple ts) [] x h = absurd (Option·none-ne-some x h)
-  parse-sound (tuple ts) (r ∷ rs) x h = let w = when-true (same r (rec 5 0 (size ts) 0)) (parses ts rs) x h in headed (Valids ts) (encodes ts) (rec 5 0 (size ts) 0) r rs x (w .0) (parses-sound ts rs x (w .1))
-  parse-sound (array a n) [] x h = absurd (Option·none-ne-some x h)
-  parse-sound (array a n) (r ∷ rs) x h = let w = when-true (same r (rec 6 0 n 0)) (many (parse a) n rs) x h in headed (Valid (array a n)) (flatMap (encode a)) (rec 6 0 n 0) r rs x (w .0) (many-sound (Valid a) (encode a) (parse a) (parse-sound a) n rs x (w .1))
-  parse-sound (list a e) [] x h = absurd (Option·none-ne-some x h)
+  parse-sound (tuple ts) [] x h = absurd (refused-done not-one-value x h)
+  parse-sound (tuple ts) (r ∷ rs) x h = let w = must-be-done r (rec 5 0 (size ts) 0) (parses ts rs) x h in headed (Valids ts) (encodes ts) (rec 5 0 (size ts) 0) r rs x (w .0) (parses-sound ts rs x (w .1))
+  parse-sound (array a n) [] x h = absurd (refused-done not-one-value x h)
+  parse-sound (array a n) (r ∷ rs) x h = let w = must-be-done r (rec 6 0 n 0) (many (parse a) n rs) x h in headed (Valid (array a n)) (flatMap (encode a)) (rec 6 0 n 0) r rs x (w .0) (many-sound (Valid a) (encode a) (parse a) (parse-sound a) n rs x (w .1))
+  parse-sound (list a e) [] x h = absurd (refused-done not-one-value x h)
   parse-sound (list a e) (r ∷ rs) x h = list-sound a e (parse-sound a) r rs x h
-  parse-sound (enum vs) [] x h = absurd (Option·none-ne-some x h)
-  parse-sound (enum vs) (r ∷ rs) x h = let w = when-true (same r (rec 8 0 (r .n) 0)) (parse-choice vs (r .n) rs) x h in sized (ValidChoice vs) (ValidChoice vs) (encode-choice vs) (index vs) 8 r rs x (w .0) (parse-choice-sound vs (r .n) rs x (w .1)) (λ c o m. o)
+  parse-sound (enum vs) [] x h = absurd (refused-done not-one-value x h)
+  parse-sound (enum vs) (r ∷ rs) x h = let w = must-be-done r (rec 8 0 (r .n) 0) (parse-choice vs (r .n) rs) x h in sized (ValidChoice vs) (ValidChoice vs) (encode-choice vs) (index vs) 8 r rs x (w .0) (parse-choice-sound vs (r .n) rs x (w .1)) (λ c o m. o)
 
   pub parses-sound : (ts : Tys) → Sound (Valids ts) (encodes ts) (parses ts)
-  parses-sound nil rs x h = rw (← Option·some-injective _ _ h) (record { valid = tt; back = refl })
+  parses-sound nil rs x h = rw (← done-injective _ _ h) (record { valid = tt; back = refl })
   parses-sound (cons t ts) rs x h = cons-sound t ts (λ us y k. parse-sound t us y k) (λ us y k. parses-sound ts us y k) rs x h
 
   pub parse-choice-sound : (vs : Variants) (i : ℕ) → Sound (λ c. ValidChoice vs c × (index vs c ≡ i)) (encode-choice vs) (parse-choice vs i)
   parse-choice-sound (last ts) zero rs x h = let w = parses-sound ts rs x h in record { valid = (w .valid, refl); back = w .back }
-  parse-choice-sound (last ts) (suc i) rs x h = absurd (Option·none-ne-some x h)
+  parse-choice-sound (last ts) (suc i) rs x h = absurd (refused-done not-one-value x h)
   parse-choice-sound (more ts vs) zero rs x h = made-sound (Valids ts) (λ c. ValidChoice (more ts vs) c × (index (more ts vs) c ≡ 0)) (encodes ts) (encode-choice (more ts vs)) inl (parses ts) (λ us y k. parses-sound ts us y k) (λ a v. (v, refl)) (λ a. refl) rs x h
   parse-choice-sound (more ts vs) (suc i) rs x h = made-sound (λ c. ValidChoice vs c × (index vs c ≡ i)) (λ c. ValidChoice (more ts vs) c × (index (more ts vs) c ≡ suc i)) (encode-choice vs) (encode-choice (more ts vs)) inr (parse-choice vs i) (parse-choice-sound vs i) (λ a v. (v .0, ap suc (v .1))) (λ a. refl) rs x h
 
@@ -247,16 +242,8 @@ bytes-value-bytes r f = let h = f .n in (f .kind, (f .choice, (omega arith, (ome
 
 -- the records of a valid value fit
 
-one-below : (b n : ℕ) (ms : List ℕ) → All (λ m. m ≤ b) ms → one-of n ms ≡ true → n ≤ b
-one-below b n [] h k = absurd (let z : _≡_ {A = ℕ} 0 1 = cc in omega arith)
-one-below b n (m ∷ ms) h k = go (eqb n m) refl (one-below b n ms (h .1)) k
-  where
-    go : (x : Bool) → eqb n m ≡ x → (one-of n ms ≡ true → n ≤ b) → x || one-of n ms ≡ true → n ≤ b
-    go true e f q = let i : n ≡ m = eqb-true n m e in let g : m ≤ b = h .0 in omega arith
-    go false e f q = f q
-
 narrow : (w : ℕ) → one-of w widths ≡ true → w ≤ 256
-narrow w h = one-below 256 w widths (lit≤ tt, (lit≤ tt, (lit≤ tt, (lit≤ tt, (lit≤ tt, (lit≤ tt, (lit≤ tt, (lit≤ tt, (lit≤ tt, tt))))))))) h
+narrow w h = one-of-all (λ n. n ≤ 256) w widths (omega arith) h
 
 small : (k c n : ℕ) → k < 256 → c < 256 → n < 65536 → Fits (rec k c n 0)
 small k c n hk hc hn = record { kind = hk; choice = hc; n = hn; integer = one-le-pow 256 2 (omega arith) }
@@ -338,7 +325,11 @@ value-read-written t v a h =
 pub value-written-read : (t : Ty) (file : List ℕ) (v : Value t) → Bytes file → value-of t file ≡ done v → Valid t v × (file ≡ value-file t v)
 unfolding value-of value-file
 value-written-read t file v b h =
-    let (e, k) = refuse-step value-length (eqb (length file) 0 || not (eqb (length file % 36) 0)) (or-refuse not-one-value (parse t (map value-record (records 36 file))) >>= all-read not-one-value) v h in
+    let (e, k) = refuse-step value-length (eqb (length file) 0 || not (eqb (length file % 36) 0)) (parse t (map value-record (records 36 file)) >>= all-read not-one-value) v h in
     let m = length-row (length file % 36) (length file) e .1 in
     let w = parse-sound t (map value-record (records 36 file)) (v, []) (whole-read not-one-value (parse t (map value-record (records 36 file))) v k) in
     (w .valid, sym (written-read 36 value-bytes length-value-bytes value-record record-written (length file / 36) file (omega arith) b) ∙ ap (flatMap value-bytes) (w .back ∙ append-nil (encode t v)))
+
+-- so the accepted files of a type are those of its valid values, and each is of one
+pub value-accepted : (t : Ty) → Allowed t → (file : List ℕ) (v : Value t) → Bytes file → (value-of t file ≡ done v) ↔ (Valid t v × (file ≡ value-file t v))
+value-accepted t a file v b = (value-written-read t file v b, λ h. ap (value-of t) (h .1) ∙ value-read-written t v a (h .0))

@@ -1,4 +1,4 @@
--- `operations::write_frame` meets its contract. Rows 1 to 7 and the table come with the type that was read, rows 15 and 16 from `check_file`, and the frame's length is
+-- `operations::write_frame` meets its contract. Rows 1 to 7 and the table come with the type that was read, rows 15, 16, 21 and 22 from `check_file`, and the frame's length is
 -- that of the first width, so the function's own test is row 17, and where it passes there is room for the writer. Each answer is one law of `Frames`. Assumes nothing.
 use native.Mathlib.Omega.{arith}
 use borrow.Author.Needs.{needs}

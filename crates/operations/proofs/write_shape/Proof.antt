@@ -1,4 +1,4 @@
--- `operations::write_shape` meets its contract. Rows 1 to 7 and the table come with the type that was read, rows 15 and 16 and the shape's length from
+-- `operations::write_shape` meets its contract. Rows 1 to 7 and the table come with the type that was read, rows 15, 16, 21 and 22 and the shape's length from
 -- `check_file`, so the function's own test is row 17, and where it passes there is room for the writer. Each answer is one law of `Shapes`. Assumes nothing.
 use native.Mathlib.Omega.{arith}
 use borrow.Author.Needs.{needs}

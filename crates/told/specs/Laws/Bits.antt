@@ -1,29 +1,31 @@
 -- Bits: a bit and an integer stand in their own record, an integer of every width in its last bits.
 use mathlib.Core.Path.{_≡_, sym, ap, _∙_}
-use mathlib.Core.Bool.{true, false, _&&_}
+use mathlib.Core.Bool.{true, false}
 use mathlib.Core.List.{List, [], _∷_, map}
 use mathlib.Core.Logic.{_⊎_, inl, inr}
 use mathlib.Core.Option.{some}
 use Prim.Native.Nat.{ℕ, _+_, _-_, _*_, _/_, _^_, _<_, _≤_}
 use native.Mathlib.Omega.{arith}
-use lib.Dec.{ltb}
+use lib.Dec.{leb}
 use lib.ListN.{length, take, drop, length-take, length-drop}
 use lib.Seq.{drop-cons}
-use borrow.Author.Tests.{ltb-true}
+use borrow.Author.Tests.{leb-false}
+use Rattle.model.specs.Numbers.{integer-too-large}
+use Rattle.model.specs.Outcome.{Outcome, done, _>>_, refuse}
 use Rattle.model.specs.Bytes.{odd, byte-bits, bits-of, to-bits, number}
 use Rattle.model.specs.Balanced.{grow, btree, fold}
 use Rattle.model.specs.Structural.{SValue, unit, pair}
 use Rattle.model.specs.Types.{bool, uint}
 use Rattle.model.specs.Values.{bit, inject}
-use Rattle.model.specs.ValueFiles.{rec, same, encode, parse-at}
+use Rattle.model.specs.ValueFiles.{Rec, rec, same, encode, parse-at}
 use Rattle.model.specs.Laws.Shapes.{length-bits-of}
 use Rattle.bits.specs.Bits.{bits-at}
 use Rattle.bits.specs.Laws.Integers.{low-bits-at, low-bits-number}
 use Rattle.bits.specs.Laws.Window.{bits-within}
 use Rattle.value.specs.Model as places
 use Rattle.told.specs.Forms.{rows-from, choice-at, record-bits, bits-told}
-use Rattle.told.specs.Laws.Seen.{seen, seen-when, seen-pick}
-use Rattle.told.specs.Laws.Products.{said-at, choice-is, and-right}
+use Rattle.told.specs.Laws.Seen.{seen, seen-row, seen-must, seen-pick}
+use Rattle.told.specs.Laws.Products.{said-at, choice-is}
 
 module _ (val : List ℕ) (v : ℕ) (there : v < length val / 36) where
   -- the bits of m bytes of a record
@@ -55,18 +57,20 @@ module _ (val : List ℕ) (v : ℕ) (there : v < length val / 36) where
     unfolding parse-at encode inject bits-told
     uint-said w k h =
         let r = places.row val v in
-        let q = seen-when (inject (uint w)) (encode (uint w)) v y (same r (rec 2 0 w (r .integer)) && ltb (r .integer) (2 ^ w)) (some (r .integer, rows-from val (v + 1))) h in
-        let l : r .integer < 2 ^ w = ltb-true _ _ (and-right (same r (rec 2 0 w (r .integer))) (ltb (r .integer) (2 ^ w)) (q .0)) in
-        q .1 ∙ ap (λ n. some (fold pair unit (btree n) (map bit (to-bits w (r .integer))), v + 1)) (length-bits-of w (r .integer)) ∙ ap (λ l. some (fold pair unit (btree w) (map bit l), v + 1)) (sym (integer-bits w k l))
+        let o : Outcome (ℕ × List Rec) = done (r .integer, rows-from val (v + 1)) in
+        let q = seen-must (inject (uint w)) (encode (uint w)) v y r (rec 2 0 w (r .integer)) (refuse integer-too-large (leb (2 ^ w) (r .integer)) >> o) h in
+        let u = seen-row (inject (uint w)) (encode (uint w)) v y integer-too-large (leb (2 ^ w) (r .integer)) o (sym (q .1) ∙ h) in
+        let l : r .integer < 2 ^ w = leb-false _ _ (u .0) in
+        q .1 ∙ u .1 ∙ ap (λ n. some (fold pair unit (btree n) (map bit (to-bits w (r .integer))), v + 1)) (length-bits-of w (r .integer)) ∙ ap (λ l. some (fold pair unit (btree w) (map bit l), v + 1)) (sym (integer-bits w k l))
 
     pub bool-said : said-at bool val v ≡ some y → said-at bool val v ≡ some (bits-told val v 15 1, v + 1)
     unfolding parse-at encode inject
     bool-said h =
         let r = places.row val v in
-        go (seen-pick (inject bool) (encode bool) v y (same r (rec 1 0 0 0)) (same r (rec 1 1 0 0)) (some (false, rows-from val (v + 1))) (some (true, rows-from val (v + 1))) h)
+        go (seen-pick (inject bool) (encode bool) v y (same r (rec 1 0 0 0)) r (rec 1 1 0 0) (done (false, rows-from val (v + 1))) (done (true, rows-from val (v + 1))) h)
       where
-        go : ((same (places.row val v) (rec 1 0 0 0) ≡ true) × (said-at bool val v ≡ seen (inject bool) (encode bool) v (some (false, rows-from val (v + 1)))))
-            ⊎ ((same (places.row val v) (rec 1 1 0 0) ≡ true) × (said-at bool val v ≡ seen (inject bool) (encode bool) v (some (true, rows-from val (v + 1)))))
+        go : ((same (places.row val v) (rec 1 0 0 0) ≡ true) × (said-at bool val v ≡ seen (inject bool) (encode bool) v (done (false, rows-from val (v + 1)))))
+            ⊎ ((same (places.row val v) (rec 1 1 0 0) ≡ true) × (said-at bool val v ≡ seen (inject bool) (encode bool) v (done (true, rows-from val (v + 1)))))
             → said-at bool val v ≡ some (bits-told val v 15 1, v + 1)
         go (inl q) = q .1 ∙ ap (λ z. some (z, v + 1)) (one-bit 0 (choice-is val v _ _ _ _ (q .0)))
         go (inr q) = q .1 ∙ ap (λ z. some (z, v + 1)) (one-bit 1 (choice-is val v _ _ _ _ (q .0)))

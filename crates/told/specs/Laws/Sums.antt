@@ -22,8 +22,8 @@ use Rattle.types.specs.Trees.{endOf, cases, treev}
 use Rattle.types.specs.Steps.{GivenRow, given-end}
 use Rattle.value.specs.Model as places
 use Rattle.value.specs.Record.{number-at}
-use Rattle.told.specs.Forms.{Told, rows-from, choice-at, told, standing, hops}
-use Rattle.told.specs.Laws.Seen.{seen, seen-as, seen-made, seen-of, seen-when, seen-pick}
+use Rattle.told.specs.Forms.{Told, rows-from, read, choice-at, told, standing, hops}
+use Rattle.told.specs.Laws.Seen.{seen, read-some, seen-as, seen-made, seen-of, seen-must, seen-pick}
 use Rattle.told.specs.Laws.Rows.{first, rest, standing-is, said}
 use Rattle.told.specs.Laws.Products.{said-at, choice-is, one-more}
 
@@ -46,7 +46,7 @@ module _ (val : List ℕ) (v : ℕ) (y : SValue × ℕ) where
   unfolding parse-at encode inject
   either-said a b h =
       let r = places.row val v in
-      go (seen-pick (inject (either a b)) (encode (either a b)) v y (same r (rec 3 0 0 0)) (same r (rec 3 1 0 0)) (made inl (parse a (rows-from val (v + 1)))) (made inr (parse b (rows-from val (v + 1)))) h)
+      go (seen-pick (inject (either a b)) (encode (either a b)) v y (same r (rec 3 0 0 0)) r (rec 3 1 0 0) (made inl (parse a (rows-from val (v + 1)))) (made inr (parse b (rows-from val (v + 1)))) h)
     where
       go : ((same (places.row val v) (rec 3 0 0 0) ≡ true) × (said-at (either a b) val v ≡ seen (inject (either a b)) (encode (either a b)) v (made inl (parse a (rows-from val (v + 1))))))
           ⊎ ((same (places.row val v) (rec 3 1 0 0) ≡ true) × (said-at (either a b) val v ≡ seen (inject (either a b)) (encode (either a b)) v (made inr (parse b (rows-from val (v + 1))))))
@@ -61,9 +61,9 @@ module _ (val : List ℕ) (v : ℕ) (y : SValue × ℕ) where
       let r = places.row val v in
       let rs = rows-from val (v + 1) in
       let o = parse-choice vs (r .n) rs in
-      let w = seen-when (inject (enum vs)) (encode (enum vs)) v y (same r (rec 8 0 (r .n) 0)) o h in
-      let (x, e, f) = mapO-some (λ x. (inject (enum vs) (x .0), v + length (encode (enum vs) (x .0)))) o y (sym (w .1) ∙ h) in
-      let k : index vs (x .0) ≡ r .n = parse-choice-sound vs (r .n) rs x e .valid .1 in (
+      let w = seen-must (inject (enum vs)) (encode (enum vs)) v y r (rec 8 0 (r .n) 0) o h in
+      let (x, e, f) = mapO-some (λ x. (inject (enum vs) (x .0), v + length (encode (enum vs) (x .0)))) (read o) y (sym (w .1) ∙ h) in
+      let k : index vs (x .0) ≡ r .n = parse-choice-sound vs (r .n) rs x (read-some o x e) .valid .1 in (
         omega (arith, index-count vs (x .0)),
         w .1 ∙ seen-as (inject (enum vs)) (encode (enum vs)) (payload vs) (encode-choice vs) (enum-injection (btree (count vs)) (r .n)) v (v + 1) (λ x. one-more v _) o (λ x e. ap (λ i. enum-injection (btree (count vs)) i (payload vs (x .0))) (parse-choice-sound vs (r .n) rs x e .valid .1)),
       )

@@ -8,7 +8,7 @@ use native.Mathlib.Omega.{arith}
 use lib.Dec.{eqb}
 use lib.ListN.{length}
 use Rattle.model.specs.Numbers.{value-length, not-one-value}
-use Rattle.model.specs.Outcome.{done, _>>=_, or-refuse, all-read}
+use Rattle.model.specs.Outcome.{done, _>>=_, all-read}
 use Rattle.model.specs.Values.{Value, inject}
 use Rattle.model.specs.ValueFiles.{encode, parse, value-of}
 use Rattle.model.specs.Laws.Outcome.{refuse-step, whole-read}
@@ -25,7 +25,7 @@ pub whole-told : (s E val : List ℕ) {d p : ℕ} (x : Value (tree d s p)) → G
 unfolding told value-of
 whole-told s E val {d} {p} x g h =
     let t = tree d s p in
-    let q = refuse-step value-length (eqb (length val) 0 || not (eqb (length val % 36) 0)) (or-refuse not-one-value (parse t (rows val)) >>= all-read not-one-value) x h .1 in
-    let e : parse t (rows val) ≡ some (x, []) = whole-read not-one-value (parse t (rows val)) x q in
+    let q = refuse-step value-length (eqb (length val) 0 || not (eqb (length val % 36) 0)) (parse t (rows val) >>= all-read not-one-value) x h .1 in
+    let e : parse t (rows val) ≡ done (x, []) = whole-read not-one-value (parse t (rows val)) x q in
     let n : length (encode t x) ≡ length (rows val) = ap length (sym (parse-sound t (rows val) (x, []) e .back ∙ append-nil (encode t x))) in
     standing-is val 0 g ∙ ap (seen (inject t) (encode t) 0) e ∙ ap (λ n. some (inject t x, n)) (omega (arith, n, length-rows val))

@@ -174,7 +174,7 @@ pub +check-parts+check-payload+check-run+check-value-spec : {M : Type 1} → sta
     (λ c κs. search steps)
     -- open-record-requires
     (λ c κs. search steps)
-    -- enum-told
+    -- enum-known-x
     (λ c. search steps)
     -- enum-known-j
     (λ c. search steps)

@@ -67,6 +67,9 @@ enum niegluk_number {
     NIEGLUK_NOT_ONE_TREE = 9,
     /* the shape does not read as a value of the type */
     NIEGLUK_NOT_RECONSTRUCTED = 10,
+    /* something other than a unit stands where the shape is read as an empty tuple, an
+     * array of 0 or a variant without parts */
+    NIEGLUK_NO_UNIT = 20,
     /* the frame has another length than the type's frames */
     NIEGLUK_FRAME_LENGTH = 11,
     /* a padding or tail bit of the frame is 1 */
@@ -119,9 +122,11 @@ uint32_t niegluk_write_shape(const uint8_t *ty, size_t ty_len,
                              uint8_t *out, size_t out_len, size_t *length);
 
 /* Reads a shape as a value of a type, and writes its value file, 36 bytes a record.
- * The type need not lower: a Never is refused only where the shape reaches it. What
- * lies under an empty tuple, an array of 0 or a variant without parts is passed over.
- * At most 77,856,768 bytes. Numbers 1 to 5, 8, 9, 10 and 17. */
+ * The type need not lower: a Never is refused only where the shape reaches it. Where
+ * an empty tuple, an array of 0 or a variant without parts is read, only a unit may
+ * stand. For a type that lowers, what is accepted are the shapes that belong to it,
+ * those that niegluk_write_shape writes.
+ * At most 77,856,768 bytes. Numbers 1 to 5, 8, 9, 10, 20 and 17. */
 uint32_t niegluk_reconstruct(const uint8_t *ty, size_t ty_len,
                              const uint8_t *shape, size_t shape_len,
                              uint8_t *out, size_t out_len, size_t *length);

@@ -28,6 +28,9 @@ const char *niegluk_says(uint32_t number)
         return "The shape has a byte above 3, or is not exactly one tree.";
     case NIEGLUK_NOT_RECONSTRUCTED:
         return "The shape does not read as a value of the type.";
+    case NIEGLUK_NO_UNIT:
+        return "Something other than a unit stands where the shape is read as an empty "
+               "tuple, an array of 0 or a variant without parts.";
     case NIEGLUK_FRAME_LENGTH:
         return "The frame has another length than the type's frames.";
     case NIEGLUK_STRAY_BIT:

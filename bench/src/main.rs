@@ -17,6 +17,8 @@ mod plain;
 #[path = "../../oracle/src/rust.rs"]
 mod rust;
 mod second;
+#[path = "../../oracle/src/spots.rs"]
+mod spots;
 #[path = "../../oracle/src/types.rs"]
 mod types;
 #[path = "../../oracle/src/values.rs"]

@@ -480,9 +480,18 @@ pub fn reconstruct(ty: &[u8], shape: &[u8], out: &mut [u8]) -> Outcome<usize> {
         return Err(9);
     }
     let mut file = vec![];
-    let mut rest = shape;
+    let mut rest = Trees { rest: shape, lacking: false };
     take_shape(&ty, &mut rest, &mut file).ok_or(10u32)?;
+    if rest.lacking {
+        return Err(20);
+    }
     deliver(&file, out)
+}
+
+/// What is left of a shape, and whether something else than a unit stood where one belongs.
+struct Trees<'a> {
+    rest: &'a [u8],
+    lacking: bool,
 }
 
 /// Where the first tree ends, if it does.
@@ -501,14 +510,14 @@ fn tree_end(shape: &[u8]) -> Option<usize> {
     None
 }
 
-fn next(rest: &mut &[u8]) -> u8 {
-    let byte = rest[0];
-    *rest = &rest[1..];
+fn next(rest: &mut Trees) -> u8 {
+    let byte = rest.rest[0];
+    rest.rest = &rest.rest[1..];
     byte
 }
 
 /// A left or a right, and which.
-fn side(rest: &mut &[u8]) -> Option<bool> {
+fn side(rest: &mut Trees) -> Option<bool> {
     match next(rest) {
         1 => Some(false),
         2 => Some(true),
@@ -516,7 +525,7 @@ fn side(rest: &mut &[u8]) -> Option<bool> {
     }
 }
 
-fn expect(rest: &mut &[u8], byte: u8) -> Option<()> {
+fn expect(rest: &mut Trees, byte: u8) -> Option<()> {
     (next(rest) == byte).then_some(())
 }
 
@@ -526,7 +535,7 @@ fn put_record(kind: u8, choice: u8, n: usize, out: &mut Vec<u8>) {
     out.extend_from_slice(&record);
 }
 
-fn take_shape(ty: &Ty, rest: &mut &[u8], out: &mut Vec<u8>) -> Option<()> {
+fn take_shape(ty: &Ty, rest: &mut Trees, out: &mut Vec<u8>) -> Option<()> {
     match &ty.kind {
         Kind::Never => None,
         Kind::Bool => {
@@ -575,7 +584,7 @@ fn take_shape(ty: &Ty, rest: &mut &[u8], out: &mut Vec<u8>) -> Option<()> {
     }
 }
 
-fn take_integer(rest: &mut &[u8], bytes: &mut [u8], from: usize, n: usize) -> Option<()> {
+fn take_integer(rest: &mut Trees, bytes: &mut [u8], from: usize, n: usize) -> Option<()> {
     if n == 1 {
         if side(rest)? {
             bytes[from / 8] |= 0x80 >> (from % 8);
@@ -587,9 +596,10 @@ fn take_integer(rest: &mut &[u8], bytes: &mut [u8], from: usize, n: usize) -> Op
     take_integer(rest, bytes, from + n / 2, n / 2)
 }
 
-fn take_product<'a, F: Fn(usize) -> &'a Ty>(n: usize, ty: &F, rest: &mut &[u8], out: &mut Vec<u8>) -> Option<()> {
+fn take_product<'a, F: Fn(usize) -> &'a Ty>(n: usize, ty: &F, rest: &mut Trees, out: &mut Vec<u8>) -> Option<()> {
     if n == 0 {
-        *rest = &rest[tree_end(rest)?..];
+        rest.lacking |= rest.rest[0] != 0;
+        rest.rest = &rest.rest[tree_end(rest.rest)?..];
         return Some(());
     }
     take_parts(0, n, ty, rest, out)
@@ -599,7 +609,7 @@ fn take_parts<'a, F: Fn(usize) -> &'a Ty>(
     from: usize,
     n: usize,
     ty: &F,
-    rest: &mut &[u8],
+    rest: &mut Trees,
     out: &mut Vec<u8>,
 ) -> Option<()> {
     if n == 1 {
@@ -612,7 +622,7 @@ fn take_parts<'a, F: Fn(usize) -> &'a Ty>(
 }
 
 /// The elements, and how many they are.
-fn take_blocks(bound: usize, t: &Ty, rest: &mut &[u8], out: &mut Vec<u8>) -> Option<usize> {
+fn take_blocks(bound: usize, t: &Ty, rest: &mut Trees, out: &mut Vec<u8>) -> Option<usize> {
     if bound > 2 {
         expect(rest, 3)?;
     }
@@ -627,7 +637,7 @@ fn take_blocks(bound: usize, t: &Ty, rest: &mut &[u8], out: &mut Vec<u8>) -> Opt
     Some(own + others)
 }
 
-fn take_injection(n: usize, rest: &mut &[u8]) -> Option<usize> {
+fn take_injection(n: usize, rest: &mut Trees) -> Option<usize> {
     if n == 1 {
         return Some(0);
     }

@@ -2,6 +2,7 @@
 
 use crate::frames::{self, Lowered};
 use crate::paths::follow;
+use crate::spots;
 use crate::types::{check_lowering, lower, read_type, Ty};
 use crate::values::{check_shape, read_value, reconstruct, shape, write_value, Val};
 
@@ -25,7 +26,10 @@ pub fn shaped(ty: &[u8], value: &[u8]) -> Outcome {
 pub fn reconstructed(ty: &[u8], shape: &[u8]) -> Outcome {
     let ty = read_type(ty)?;
     check_shape(shape)?;
-    reconstruct(&ty, shape).map(|val| write_value(&val)).ok_or(10)
+    match spots::met(&ty, shape).number() {
+        Some(number) => Err(number),
+        None => reconstruct(&ty, shape).map(|val| write_value(&val)).ok_or(10),
+    }
 }
 
 fn frame_of(ty: &Ty, val: &Val) -> Vec<u8> {

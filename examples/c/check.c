@@ -286,11 +286,8 @@ static void values(void)
     static const struct {
         const char *name, *type, *shape, *value;
     } odd[] = {
-        { "a pair under ()", "05000000", "300", "05000000" },
         { "option never", "04000000 00000000", "10", "04000000" },
-        { "a pair under an array of 0", "06000000 00000000", "300", "06000000" },
-        { "a pair under a variant without parts", "08000002 09000000 09000000", "2300",
-          "08000001" },
+        { "an array of 0 never", "06000000 00000000", "0", "06000000" },
         { "an array too large to lower", "04000000 06008001 05000000", "10", "04000000" },
     };
     static const struct {
@@ -305,6 +302,15 @@ static void values(void)
         { "never", "00000000", "0", 10 },
         { "u2 with one bit short", "02000002", "3100", 10 },
         { "a unit for a bit", "01000000", "0", 10 },
+        { "a pair for ()", "05000000", "300", 20 },
+        { "a pair for an array of 0", "06000000 00000000", "300", 20 },
+        { "a pair for a variant without parts", "08000002 09000000 09000000", "2300", 20 },
+        { "a left for the () of a payload", "08000001 09000001 05000000", "10", 20 },
+        { "a left for the () of a some", "04000000 05000000", "210", 20 },
+        { "a right for the () of a list", "07000004 05000000", "32302010", 20 },
+        { "a left for (), and a tree left over", "05000000", "100", 9 },
+        { "a left for (), then a unit for a bit", "05000002 05000000 01000000", "3100", 10 },
+        { "a unit for a bit, then a left for ()", "05000002 01000000 05000000", "3010", 10 },
     };
     for (size_t i = 0; i < sizeof good / sizeof *good; i++) {
         struct file ty = hex(good[i].type), val = value(good[i].value),

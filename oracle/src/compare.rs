@@ -34,7 +34,7 @@ impl Counts {
 
 /// What went wrong with a case, if anything.
 pub enum Trouble {
-    /// The published code and the plain one differ, or the two that number a value file, or one of them panics.
+    /// The published code and the plain one differ, or the two that number a value file or a shape, or one panics.
     Ourselves(String),
     Library(String),
 }

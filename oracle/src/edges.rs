@@ -1,4 +1,4 @@
-//! Cases written by hand with the results that 01 names, and the smallest inputs of its rows.
+//! Cases written by hand with the results that 01 and 02 name, and the smallest inputs of their rows.
 
 use crate::case::Case;
 use crate::expect::Entry::{self, *};
@@ -136,7 +136,7 @@ fn along_the_edges(e: &mut Edges) {
         e.good("either u4 or bool", WriteFrame, &[&ty(&CHOICE), value], &frame);
         e.good("either u4 or bool back", ReadFrame, &[&ty(&CHOICE), &frame], value);
     }
-    e.good("300 as ()", Reconstruct, &[&ty(&[UNIT]), &digits("300")], &val(&[(5, 0, 0, 0)]));
+    e.bad("300 as ()", Reconstruct, &[&ty(&[UNIT]), &digits("300")], 20);
     e.bad("1300 as Option bool", Reconstruct, &[&ty(&[(4, 0), (1, 0)]), &digits("1300")], 10);
     e.good("10 as Option Never", Reconstruct, &[&ty(&[(4, 0), (0, 0)]), &digits("10")], &val(&[(4, 0, 0, 0)]));
     e.bad("an array of 32,769 units", Lower, &[&ty(&[(6, 32_769), UNIT])], 7);
@@ -378,6 +378,139 @@ fn faults_of_kinds(e: &mut Edges) {
     }
 }
 
+const NOTHING: Record = (5, 0, 0, 0);
+
+/// Units at the spots of a shape, and a shape that has none.
+fn spots_with_units(e: &mut Edges) {
+    let shapes: [(&'static str, &[(u8, u16)], &str, &[Record]); 31] = [
+        ("()", &[UNIT], "0", &[NOTHING]),
+        ("an array of 0", &[(6, 0), (1, 0)], "0", &[(6, 0, 0, 0)]),
+        ("an array of 0 of Never", &[(6, 0), (0, 0)], "0", &[(6, 0, 0, 0)]),
+        ("the one variant", &[(8, 1), (9, 0)], "0", &[(8, 0, 0, 0)]),
+        ("variant 0 of two", &[(8, 2), (9, 0), (9, 0)], "10", &[(8, 0, 0, 0)]),
+        ("variant 1 of two", &[(8, 2), (9, 0), (9, 0)], "20", &[(8, 0, 1, 0)]),
+        ("a payload of one ()", &[(8, 1), (9, 1), UNIT], "0", &[(8, 0, 0, 0), NOTHING]),
+        ("a payload of two ()", &[(8, 1), (9, 2), UNIT, UNIT], "300", &[(8, 0, 0, 0), NOTHING, NOTHING]),
+        ("none", &[(4, 0), UNIT], "10", &[(4, 0, 0, 0)]),
+        ("some ()", &[(4, 0), UNIT], "20", &[(4, 1, 0, 0), NOTHING]),
+        ("left ()", &[(3, 0), UNIT, (1, 0)], "10", &[(3, 0, 0, 0), NOTHING]),
+        ("left () not taken", &[(3, 0), UNIT, (1, 0)], "220", &[(3, 1, 0, 0), (1, 1, 0, 0)]),
+        ("right ()", &[(3, 0), (1, 0), UNIT], "20", &[(3, 1, 0, 0), NOTHING]),
+        ("right () not taken", &[(3, 0), (1, 0), UNIT], "120", &[(3, 0, 0, 0), (1, 1, 0, 0)]),
+        ("no elements of ()", &[(7, 4), UNIT], "31010", &[(7, 0, 0, 0)]),
+        ("an element of ()", &[(7, 4), UNIT], "31020", &[(7, 0, 1, 0), NOTHING]),
+        ("two elements of ()", &[(7, 4), UNIT], "3230010", &[(7, 0, 2, 0), NOTHING, NOTHING]),
+        ("three elements of ()", &[(7, 4), UNIT], "3230020", &[(7, 0, 3, 0), NOTHING, NOTHING, NOTHING]),
+        ("an element of an array of 0", &[(7, 2), (6, 0), (1, 0)], "20", &[(7, 0, 1, 0), (6, 0, 0, 0)]),
+        ("an array of one ()", &[(6, 1), UNIT], "0", &[(6, 0, 1, 0), NOTHING]),
+        ("an array of two ()", &[(6, 2), UNIT], "300", &[(6, 0, 2, 0), NOTHING, NOTHING]),
+        ("a tuple of one ()", &[(5, 1), UNIT], "0", &[(5, 0, 1, 0), NOTHING]),
+        ("a tuple of two ()", &[(5, 2), UNIT, UNIT], "300", &[(5, 0, 2, 0), NOTHING, NOTHING]),
+        ("() and a Boolean", &[(5, 2), UNIT, (1, 0)], "3010", &[(5, 0, 2, 0), NOTHING, (1, 0, 0, 0)]),
+        ("a Boolean and ()", &[(5, 2), (1, 0), UNIT], "3100", &[(5, 0, 2, 0), (1, 0, 0, 0), NOTHING]),
+        ("() and a u2", &[(5, 2), UNIT, (2, 2)], "3031020", &[(5, 0, 2, 0), NOTHING, (2, 0, 2, 1)]),
+        ("() beside a Never", &[(5, 2), UNIT, (4, 0), (0, 0)], "3010", &[(5, 0, 2, 0), NOTHING, (4, 0, 0, 0)]),
+        (
+            "() and a large one",
+            &[(5, 2), UNIT, (4, 0), (6, 32_769), UNIT],
+            "3010",
+            &[(5, 0, 2, 0), NOTHING, (4, 0, 0, 0)],
+        ),
+        ("some large array of 0", &[(4, 0), (6, 0), (6, 32_769), UNIT], "20", &[(4, 1, 0, 0), (6, 0, 0, 0)]),
+        ("true", &[(1, 0)], "20", &[(1, 1, 0, 0)]),
+        ("a u1", &[(2, 1)], "10", &[(2, 0, 1, 0)]),
+    ];
+    for (name, records, shape, value) in shapes {
+        e.good(name, Reconstruct, &[&ty(records), &digits(shape)], &val(value));
+    }
+}
+
+/// Anything else at the spots of a shape, with the rows before and behind 20.
+fn spots_without_units(e: &mut Edges) {
+    let shapes: [(&'static str, &[(u8, u16)], &str, u32); 69] = [
+        ("a left as ()", &[UNIT], "10", 20),
+        ("a right as ()", &[UNIT], "20", 20),
+        ("a larger tree as ()", &[UNIT], "3102300", 20),
+        ("a pair as an array of 0", &[(6, 0), (1, 0)], "300", 20),
+        ("a left as an array of 0", &[(6, 0), (1, 0)], "10", 20),
+        ("a Boolean as an array of 0", &[(6, 0), (1, 0)], "20", 20),
+        ("an array of 0 of Never", &[(6, 0), (0, 0)], "10", 20),
+        ("variant 0 of three, a pair", &VARIANTS, "1300", 20),
+        ("variant 0 of three, a left", &VARIANTS, "110", 20),
+        ("the one variant, a pair", &[(8, 1), (9, 0)], "300", 20),
+        ("the one variant, a left", &[(8, 1), (9, 0)], "10", 20),
+        ("variant 0 of two", &[(8, 2), (9, 0), (9, 0)], "110", 20),
+        ("variant 1 of two", &[(8, 2), (9, 0), (9, 0)], "210", 20),
+        ("a payload of one ()", &[(8, 1), (9, 1), UNIT], "10", 20),
+        ("a payload of one array of 0", &[(8, 1), (9, 1), (6, 0), (1, 0)], "10", 20),
+        ("a payload of two (), the first", &[(8, 1), (9, 2), UNIT, UNIT], "3100", 20),
+        ("a payload of two (), the second", &[(8, 1), (9, 2), UNIT, UNIT], "3010", 20),
+        ("a payload of two (), one tree", &[(8, 1), (9, 2), UNIT, UNIT], "0", 10),
+        ("some (), a left", &[(4, 0), UNIT], "210", 20),
+        ("some (), a pair", &[(4, 0), UNIT], "2300", 20),
+        ("none of (), a left", &[(4, 0), UNIT], "110", 10),
+        ("none of (), a pair", &[(4, 0), UNIT], "1300", 10),
+        ("left ()", &[(3, 0), UNIT, (1, 0)], "110", 20),
+        ("left () not taken", &[(3, 0), UNIT, (1, 0)], "2300", 10),
+        ("right ()", &[(3, 0), (1, 0), UNIT], "210", 20),
+        ("right () not taken", &[(3, 0), (1, 0), UNIT], "1300", 10),
+        ("an element of (), bound 2", &[(7, 2), UNIT], "210", 20),
+        ("no elements, bound 2", &[(7, 2), UNIT], "110", 10),
+        ("an element of ()", &[(7, 4), UNIT], "310210", 20),
+        ("the first of two elements", &[(7, 4), UNIT], "32320010", 20),
+        ("the second of two elements", &[(7, 4), UNIT], "32302010", 20),
+        ("the third of three elements", &[(7, 4), UNIT], "32300210", 20),
+        ("an empty block of two", &[(7, 4), UNIT], "311020", 10),
+        ("an empty block of one", &[(7, 4), UNIT], "32300110", 10),
+        ("an element, then an empty block", &[(7, 4), UNIT], "323200110", 10),
+        ("an array of 0 as an element", &[(7, 2), (6, 0), (1, 0)], "220", 20),
+        ("a variant as an element", &[(7, 2), (8, 2), (9, 0), (9, 0)], "2110", 20),
+        ("an array of one ()", &[(6, 1), UNIT], "10", 20),
+        ("an array of two (), the first", &[(6, 2), UNIT], "3100", 20),
+        ("an array of two (), the second", &[(6, 2), UNIT], "3010", 20),
+        ("an array of three (), the last", &[(6, 3), UNIT], "303010", 20),
+        ("a tuple of one ()", &[(5, 1), UNIT], "300", 20),
+        ("a tuple of two (), the first", &[(5, 2), UNIT, UNIT], "33000", 20),
+        ("a tuple of two (), the second", &[(5, 2), UNIT, UNIT], "30300", 20),
+        ("a tuple of two (), both", &[(5, 2), UNIT, UNIT], "31020", 20),
+        ("a tuple of two (), one tree", &[(5, 2), UNIT, UNIT], "10", 10),
+        ("a tuple of (), then an array of 0", &[(5, 2), UNIT, (6, 0), (1, 0)], "3010", 20),
+        ("() and a Boolean", &[(5, 2), UNIT, (1, 0)], "31010", 20),
+        ("a Boolean and ()", &[(5, 2), (1, 0), UNIT], "31010", 20),
+        ("() and no Boolean", &[(5, 2), UNIT, (1, 0)], "3100", 10),
+        ("no Boolean and ()", &[(5, 2), (1, 0), UNIT], "3010", 10),
+        ("() and no u2", &[(5, 2), UNIT, (2, 2)], "310310110", 10),
+        ("no u2 and ()", &[(5, 2), (2, 2), UNIT], "331011010", 10),
+        ("(), (), no Boolean", &[(5, 3), UNIT, UNIT, (1, 0)], "3103100", 10),
+        ("(), no Boolean, ()", &[(5, 3), UNIT, (1, 0), UNIT], "3103010", 10),
+        ("() beside a Never", &[(5, 2), UNIT, (4, 0), (0, 0)], "31010", 20),
+        ("() and a Never", &[(5, 2), UNIT, (4, 0), (0, 0)], "31020", 10),
+        ("a Never and ()", &[(5, 2), (4, 0), (0, 0), UNIT], "32010", 10),
+        ("() and a large one", &[(5, 2), UNIT, (4, 0), (6, 32_769), UNIT], "31010", 20),
+        ("some large array of 0", &[(4, 0), (6, 0), (6, 32_769), UNIT], "210", 20),
+        ("false, a left", &[(1, 0)], "110", 10),
+        ("a u1, a pair", &[(2, 1)], "1300", 10),
+        ("a u2, a left", &[(2, 2)], "310110", 10),
+        ("one left over", &[UNIT], "100", 9),
+        ("a pair and one left over", &[UNIT], "3000", 9),
+        ("one missing", &[UNIT], "310", 9),
+        ("a byte above 3", &[UNIT], "14", 9),
+        ("a type left over", &[UNIT, UNIT], "10", 5),
+        ("a tuple's part missing", &[(5, 1)], "10", 5),
+    ];
+    for (name, records, shape, number) in shapes {
+        e.bad(name, Reconstruct, &[&ty(records), &digits(shape)], number);
+    }
+    for room in [0, 35, 36] {
+        e.put("a left as (), its value or less", Reconstruct, &[&ty(&[UNIT]), &digits("10")], room, Err(20));
+    }
+    let two = ty(&[(5, 2), UNIT, (1, 0)]);
+    for room in [0, 107, 108] {
+        e.put("() and a Boolean, its value or less", Reconstruct, &[&two, &digits("31010")], room, Err(20));
+        e.put("() and no Boolean, its value or less", Reconstruct, &[&two, &digits("3100")], room, Err(10));
+    }
+}
+
 /// Long arguments or results; they stand at the end of the recorded file.
 fn long_ones(e: &mut Edges) {
     let over = ty(&[(1, 0); 1_025]);
@@ -389,17 +522,30 @@ fn long_ones(e: &mut Edges) {
     e.bad("1,025 records", PartEdit, &[&over, &[], &[0], &[]], 2);
     e.bad("1,025 records, the first bad", Reconstruct, &[&ty(&[(10, 0); 1_025]), &[]], 2);
     let many = [vec![(5, 1_023)], vec![UNIT; 1_023]].concat();
-    let units = val(&[(5, 0, 0, 0)]);
-    e.bad("1,024 records", WriteShape, &[&ty(&many), &units], 16);
+    e.bad("1,024 records", WriteShape, &[&ty(&many), &val(&[NOTHING])], 16);
     let lefts = |n: usize| [vec![1; n - 1], vec![0]].concat();
-    e.good("65,536 records under ()", Reconstruct, &[&ty(&[UNIT]), &lefts(65_536)], &units);
+    e.bad("65,536 records under ()", Reconstruct, &[&ty(&[UNIT]), &lefts(65_536)], 20);
     e.bad("65,537 records", Reconstruct, &[&ty(&[UNIT]), &lefts(65_537)], 8);
-    let mut level = digits("0");
-    for _ in 0..15 {
-        level = [digits("2"), level.clone(), level].concat();
-    }
+    // A full tree: so many levels of forks above equal leaves.
+    let full = |fork: &str, levels: usize, leaf: &str| {
+        (0..levels).fold(digits(leaf), |tree, _| [digits(fork), tree.clone(), tree].concat())
+    };
+    // 85 integers of 256 zeros hang as 1, 4, 16 and 64 of them; then 64 zeros, and some of 32 units.
+    let bits = |levels| full("3", levels, "10");
+    let integers = [digits("333"), bits(8), bits(10), bits(12), bits(14)].concat();
+    let long = [digits("3"), integers, digits("3"), bits(6), digits("2"), full("3", 5, "0")].concat();
+    let long_type = ty(&[(5, 3), (6, 85), (2, 256), (2, 64), (4, 0), (6, 32), UNIT]);
+    let long_value = [
+        vec![(5, 0, 3, 0), (6, 0, 85, 0)],
+        vec![(2, 0, 256, 0); 85],
+        vec![(2, 0, 64, 0), (4, 1, 0, 0), (6, 0, 32, 0)],
+        vec![NOTHING; 32],
+    ];
+    let long_value = val(&long_value.concat());
+    e.good("65,536 records", Reconstruct, &[&long_type, &long], &long_value);
+    e.put("65,536 records, one byte short", Reconstruct, &[&long_type, &long], long_value.len() - 1, Err(17));
     let array = ty(&[(6, 32_768), UNIT]);
-    e.good("an array of 32,768 units", Lower, &[&array], &level);
+    e.good("an array of 32,768 units", Lower, &[&array], &full("2", 15, "0"));
     e.put("an array of 32,768 units, one byte short", Lower, &[&array], 65_534, Err(17));
 }
 
@@ -411,6 +557,8 @@ pub fn edges() -> (Vec<Edge>, Vec<Edge>) {
     other_rows(&mut short);
     faults_of_a_pair(&mut short);
     faults_of_kinds(&mut short);
+    spots_with_units(&mut short);
+    spots_without_units(&mut short);
     let mut long = Edges(vec![]);
     long_ones(&mut long);
     (short.0, long.0)

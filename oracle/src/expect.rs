@@ -4,7 +4,8 @@ use crate::first_fault;
 use crate::frames::{self, Lowered};
 use crate::paths::{self, follow, Part};
 use crate::rust;
-use crate::types::{self, check_lowering, read_type, Ty};
+use crate::spots;
+use crate::types::{self, all_small, check_lowering, lowering_work, read_type, without_never, Ty};
 use crate::values::{self, check_shape, read_value, write_value, Val};
 
 /// The entries, in the order of the C header. Recorded cases use these numbers.
@@ -54,13 +55,16 @@ pub type Outcome = Result<Vec<u8>, u32>;
 /// Every number is below this.
 pub const NUMBERS: usize = 23;
 
+/// For a type that does not lower the published writer may make so many trees.
+const MOST_WORK: usize = 1 << 22;
+
 /// What an entry answers with a buffer that is long enough.
-/// It panics where the published code and the plain one differ, or the two that number a value file.
+/// It panics where the published code and the plain one differ, or the two that number a value file or a shape.
 pub fn outcome(entry: Entry, args: &[Vec<u8>]) -> Outcome {
     let ty = read_type(&args[0])?;
     if entry == Entry::Reconstruct {
         check_shape(&args[1])?;
-        return reconstructed(&ty, &args[1]).map(|val| write_value(&val)).ok_or(10);
+        return restored(&ty, &args[1]).map(|val| write_value(&val));
     }
     check_lowering(&ty)?;
     match entry {
@@ -96,7 +100,27 @@ pub fn shaped(ty: &Ty, val: &Val) -> Vec<u8> {
     told
 }
 
-/// The value of a shape, told by the published code.
+/// The value of a shape: rows 10 and 20. 20 is told by the walk to the spots, and by the published code: the shape that
+/// it writes of the value that it read is another one.
+fn restored(ty: &Ty, shape: &[u8]) -> Result<Val, u32> {
+    let walked = spots::met(ty, shape).number();
+    let read = reconstructed(ty, shape);
+    assert!(read.is_none() == (walked == Some(10)), "row 10 of a shape differs: walked {walked:?}");
+    let val = read.ok_or(10u32)?;
+    if can_be_rewritten(ty, &val) {
+        let another = rust::rewritten(&without_never(ty), shape).expect("the shape was read") != shape;
+        assert!(another == (walked == Some(20)), "row 20 of a shape differs: walked {walked:?}");
+    }
+    walked.map_or(Ok(val), Err)
+}
+
+/// Is the published writer called? It lowers a type at most values, which may take too long. It would panic at a Never:
+/// empty tuples stand for those, as the shape reaches none.
+pub fn can_be_rewritten(ty: &Ty, val: &Val) -> bool {
+    all_small(ty) || lowering_work(ty) * val.records() <= MOST_WORK
+}
+
+/// The value of a shape by the earlier reading, before R-5: told by the published code.
 pub fn reconstructed(ty: &Ty, shape: &[u8]) -> Option<Val> {
     let told = rust::reconstruct(ty, shape);
     let plain = values::reconstruct(ty, shape);
@@ -158,6 +182,14 @@ pub fn value_file(entry: Entry, args: &[Vec<u8>]) -> Option<(Ty, Vec<u8>)> {
         }
         _ => None,
     }
+}
+
+/// The type and the shape of a case. None where it has no shape or an earlier row holds.
+pub fn shape_file(entry: Entry, args: &[Vec<u8>]) -> Option<(Ty, &[u8])> {
+    let ty = read_type(&args[0]).ok()?;
+    let shape = args.get(1).filter(|_| entry == Entry::Reconstruct)?;
+    check_shape(shape).ok()?;
+    Some((ty, shape))
 }
 
 /// No bit outside the part's stretch changes, and the stretch is the part's own frame.

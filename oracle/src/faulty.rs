@@ -4,12 +4,13 @@ use std::cmp::Reverse;
 use std::sync::atomic::{AtomicUsize, Ordering};
 
 use crate::case::{Answer, Case};
-use crate::expect::{outcome, value_file, Entry, Outcome};
+use crate::expect::{outcome, reconstructed, shape_file, value_file, Entry, Outcome};
 use crate::first_fault::faults;
+use crate::spots::{met, Spot};
 use crate::types::{read_type, write_type, Ty};
 use crate::values::{read_value, write_value, Val};
 
-pub const FAULTS: [&str; 16] = [
+pub const FAULTS: [&str; 23] = [
     "no fault",
     "an exact buffer is too short",
     "a length is one too long",
@@ -26,6 +27,13 @@ pub const FAULTS: [&str; 16] = [
     "the last fault of a value file decides",
     "a list at its bound is said to be of another type",
     "an integer is looked at before its record's choice and width",
+    "anything may stand at a spot",
+    "a spot refuses before what follows it is read",
+    "a spot in a list is not looked at",
+    "an array of 0 is not looked at",
+    "the last spot of a shape decides",
+    "a buffer that is too short refuses before a spot does",
+    "what stands under a none or a bit is taken for a spot",
 ];
 
 /// The fault at work; the first one is none.
@@ -74,11 +82,12 @@ pub fn answer(case: &Case) -> Answer {
         }
         12 if right == Err(21) => case.delivered(Err(16)),
         13..=15 if matches!(right, Err(16 | 21 | 22)) => case.delivered(misnumbered(case, fault).map_or(right, Err)),
+        16..=22 if matches!(right, Err(10 | 20)) => case.delivered(misread(case, fault).unwrap_or(right)),
         _ => answer,
     }
 }
 
-/// The number that one of the last faults gives to a refused value file, where it matters.
+/// The number that one of the faults of value files gives to a refused one, where it matters.
 fn misnumbered(case: &Case, fault: usize) -> Option<u32> {
     let (ty, mut file) = value_file(case.entry, &case.args)?;
     let all = faults(&ty, &file);
@@ -94,6 +103,25 @@ fn misnumbered(case: &Case, fault: usize) -> Option<u32> {
         15 => all.iter().find(|f| f.place == first.place && f.number == 21).map(|f| f.number),
         _ => None,
     }
+}
+
+/// What one of the faults of shapes makes of a refused one, where it matters.
+fn misread(case: &Case, fault: usize) -> Option<Outcome> {
+    let (ty, shape) = shape_file(case.entry, &case.args)?;
+    let met = met(&ty, shape);
+    let lacking = met.lacking();
+    let value = reconstructed(&ty, shape).map(|val| write_value(&val));
+    let in_list = |spot: &Spot| spot.above.iter().any(|&(kind, _)| kind == 7);
+    let passes = match fault {
+        16 => true,
+        17 => return (lacking.first()?.place < met.misfits.first()?.place).then_some(Err(20)),
+        18 => lacking.iter().all(|spot| in_list(spot)),
+        19 => lacking.iter().all(|spot| spot.kind == 6),
+        20 => met.spots.last()?.unit,
+        21 => return (value?.len() > case.room).then_some(Err(17)),
+        _ => return (!met.misfits.is_empty() && met.misfits.iter().all(|misfit| misfit.under)).then_some(Err(20)),
+    };
+    value.filter(|_| passes).map(Ok)
 }
 
 /// The shape of the value without the elements after each list's first block.

@@ -33,6 +33,8 @@ fn unit() -> Ty {
 struct Kinds {
     /// Never among a hundred leaves.
     never: usize,
+    /// Empty tuples and arrays of 0 among a hundred other leaves.
+    units: usize,
     /// The largest list bound is 2 to this.
     bounds: usize,
     /// The largest integer is BITS below this.
@@ -43,11 +45,12 @@ fn leaf(r: &mut Random, k: &Kinds) -> Ty {
     if r.percent(k.never) {
         return Ty::Never;
     }
-    match r.below(10) {
+    let unit_like = r.percent(k.units);
+    match r.below(8) {
+        0..=3 if unit_like => unit(),
+        _ if unit_like => Ty::Array(0, boxed(Ty::UInt(BITS[r.below(k.bits)]))),
         0..=2 => Ty::Bool,
-        3..=7 => Ty::UInt(BITS[r.below(k.bits)]),
-        8 => unit(),
-        _ => Ty::Array(0, boxed(Ty::UInt(BITS[r.below(k.bits)]))),
+        _ => Ty::UInt(BITS[r.below(k.bits)]),
     }
 }
 
@@ -184,8 +187,9 @@ fn long(r: &mut Random) -> Ty {
 
 fn random_type(r: &mut Random, entry: Entry, scale: Scale) -> Ty {
     let never = r.pick(&[0, 0, 0, 0, 0, 0, 0, 0, 5, 20]);
+    let units = if entry == Entry::Reconstruct { r.pick(&[20, 60]) } else { 20 };
     let small = scale == Scale::Small;
-    let k = Kinds { never, bounds: r.pick(&[3, 3, 3, 6, 9]), bits: r.pick(&[5, 5, 9]) };
+    let k = Kinds { never, units, bounds: r.pick(&[3, 3, 3, 6, 9]), bits: r.pick(&[5, 5, 9]) };
     if !small {
         match r.below(1_000) {
             0..=4 => return wide(r),
@@ -383,18 +387,43 @@ fn put_tree(r: &mut Random, n: usize, out: &mut Vec<u8>) {
     }
 }
 
+/// A shape of a value with trees in place of units at its spots: at one, at two, at about half or at all.
+fn shape_with_trees(r: &mut Random, ty: &Ty, val: &Val) -> Vec<u8> {
+    let spots = val.spots().max(1);
+    let (how, one, other, seed) = (r.below(4), r.below(spots), r.below(spots), r.next());
+    let put = |number: usize, out: &mut Vec<u8>| {
+        let mut r = Random::new(seed ^ out.len() as u64);
+        let picked = match how {
+            0 => number == one,
+            1 => number == one || number == other,
+            2 => r.percent(50),
+            _ => true,
+        };
+        let n = if picked { r.between(2, 7) } else { 1 };
+        put_tree(&mut r, n, out)
+    };
+    shape_over(ty, val, &put)
+}
+
+/// Puts a tree in place of a unit, any one.
+fn put_tree_for_unit(r: &mut Random, bytes: &mut Vec<u8>) {
+    let units: Vec<usize> = (0..bytes.len()).filter(|&i| bytes[i] == 0).collect();
+    let at = r.pick(&units);
+    let mut tree = vec![];
+    let n = r.between(2, 5);
+    put_tree(r, n, &mut tree);
+    bytes.splice(at..at + 1, tree);
+}
+
 fn random_shape(r: &mut Random, ty: &Ty, val: Option<&Val>, scale: Scale) -> Vec<u8> {
     let mut out = vec![];
     match val {
-        Some(val) if r.percent(40) => {
-            let seed = r.next();
-            // Trees where no one looks.
-            let under = |out: &mut Vec<u8>| {
-                let mut r = Random::new(seed ^ out.len() as u64);
-                let n = if r.percent(50) { 1 } else { r.between(2, 7) };
-                put_tree(&mut r, n, out)
-            };
-            out = shape_over(ty, val, &under);
+        Some(val) if r.percent(30) => {
+            out = shape_with_trees(r, ty, val);
+            // Sometimes it is not of the type as well.
+            if r.percent(20) {
+                put_tree_for_unit(r, &mut out);
+            }
         }
         Some(val) => out = shape(ty, val),
         None => {
@@ -503,15 +532,10 @@ fn damage(r: &mut Random, bytes: &mut Vec<u8>, record: usize) {
 
 /// Changes a shape: as any file, or by a tree in place of a unit.
 fn damage_shape(r: &mut Random, bytes: &mut Vec<u8>) {
-    let units: Vec<usize> = (0..bytes.len()).filter(|&i| bytes[i] == 0).collect();
-    if units.is_empty() || r.percent(40) {
+    if !bytes.contains(&0) || r.percent(40) {
         return damage(r, bytes, 1);
     }
-    let at = r.pick(&units);
-    let mut tree = vec![];
-    let n = r.between(2, 5);
-    put_tree(r, n, &mut tree);
-    bytes.splice(at..at + 1, tree);
+    put_tree_for_unit(r, bytes)
 }
 
 /// Changes a frame: bits anywhere, bits at the end, its length.

@@ -8,7 +8,7 @@ use crate::paths::follow;
 use crate::random::Random;
 use crate::spoil::spoiled;
 use crate::types::{check_lowering, write_type, Ty};
-use crate::values::{shape, write_value, Val};
+use crate::values::{shape, shape_over, write_value, Val};
 
 /// So many values of each type are tried.
 const VALUES: usize = 1;
@@ -63,12 +63,24 @@ fn arguments(r: &mut Random, entry: Entry, ty: &Ty, val: &Val) -> Vec<Vec<u8>> {
     }
 }
 
-/// Arguments with faults in the value file, where the entry has one; an edit is of the whole.
+/// A shape of a value with a left in place of the unit at one of its spots, if it has any.
+fn shape_without_unit(r: &mut Random, ty: &Ty, val: &Val) -> Option<Vec<u8>> {
+    let spots = val.spots();
+    if spots == 0 {
+        return None;
+    }
+    let one = r.below(spots);
+    Some(shape_over(ty, val, &|number, out| out.extend(if number == one { &[1, 0][..] } else { &[0] })))
+}
+
+/// Arguments with faults in the value file or without a unit in the shape, where the entry has one; an edit is of the
+/// whole.
 fn bad_arguments(r: &mut Random, entry: Entry, ty: &Ty, val: &Val) -> Option<Vec<Vec<u8>>> {
     let file = write_type(ty);
     match entry {
         Entry::WriteShape | Entry::WriteFrame => Some(vec![file, spoiled(r, ty, val)?]),
         Entry::PartEdit => Some(vec![file, framed(ty, val), vec![], spoiled(r, ty, val)?]),
+        Entry::Reconstruct => Some(vec![file, shape_without_unit(r, ty, val)?]),
         _ => None,
     }
 }

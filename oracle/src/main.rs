@@ -17,6 +17,7 @@ mod record;
 mod rust;
 mod shrink;
 mod spoil;
+mod spots;
 mod survey;
 mod types;
 mod values;

@@ -100,7 +100,11 @@ fn values(types: &[Ty], all: &[Val]) -> Vec<Value> {
 
 /// The shape, by `From<&Value> for StructuralValue`.
 pub fn shape(ty: &Ty, val: &Val) -> Vec<u8> {
-    let structural = StructuralValue::from(&value(ty, val));
+    written(&value(ty, val))
+}
+
+fn written(value: &Value) -> Vec<u8> {
+    let structural = StructuralValue::from(value);
     let mut out = vec![];
     put_node(structural.as_ref(), &mut out);
     out
@@ -144,13 +148,21 @@ pub fn tree(shape: &[u8]) -> SimValue {
     stack.pop().unwrap()
 }
 
+fn read(ty: &Ty, shape: &[u8]) -> Option<Value> {
+    let structural = StructuralValue::from(tree(shape));
+    Value::reconstruct(&structural, &resolved(ty))
+}
+
 /// The value file that a shape reads as, by `Value::reconstruct`.
 pub fn reconstruct(ty: &Ty, shape: &[u8]) -> Option<Vec<u8>> {
-    let structural = StructuralValue::from(tree(shape));
-    let value = Value::reconstruct(&structural, &resolved(ty))?;
     let mut out = vec![];
-    put_file(&value, &mut out);
+    put_file(&read(ty, shape)?, &mut out);
     Some(out)
+}
+
+/// The shape that `From<&Value> for StructuralValue` makes of the value that `Value::reconstruct` reads.
+pub fn rewritten(ty: &Ty, shape: &[u8]) -> Option<Vec<u8>> {
+    read(ty, shape).map(|value| written(&value))
 }
 
 fn integer_bytes(value: &UIntValue) -> (usize, [u8; 32]) {

@@ -1,12 +1,14 @@
-//! Counts what the random cases reach among the accepted ones, and which faults meet in value files.
+//! Counts what the random cases reach among the accepted ones, which faults meet in value files, and what stands at the
+//! spots of shapes.
 
 use std::collections::BTreeMap;
 
 use crate::case::Case;
-use crate::expect::{outcome, value_file, Entry};
+use crate::expect::{can_be_rewritten, outcome, reconstructed, shape_file, value_file, Entry};
 use crate::first_fault::faults;
 use crate::generate::{random_case, Scale};
 use crate::random::Random;
+use crate::spots::{met, Spot};
 use crate::types::{check_lowering, read_type, size, Ty};
 
 /// The deepest record; a Variant is a level of its own.
@@ -61,7 +63,11 @@ fn features(case: &Case, ty: &Ty, result: &[u8]) -> Vec<String> {
         put(true, &format!("path of {} steps", ["0", "1", "2", "3", "4 or more"][steps.min(4)]));
     }
     put(case.entry == Entry::PartEdit && result != case.args[1], "an edit that changes the frame");
-    put(case.entry == Entry::Reconstruct && case.args[1].len() > 65_000, "shape of over 65,000");
+    if case.entry == Entry::Reconstruct {
+        put(case.args[1].len() > 65_000, "shape of over 65,000");
+        let spots = met(ty, &case.args[1]).spots.len();
+        put(true, &format!("{} spots with units", ["0", "1", "2", "3 or more"][spots.min(3)]));
+    }
     all
 }
 
@@ -83,6 +89,54 @@ fn meetings(case: &Case) -> Vec<String> {
     met
 }
 
+/// What is read at a spot, and right above it.
+fn spot_name(spot: &Spot) -> String {
+    let read = match spot.kind {
+        5 => "an empty tuple",
+        6 => "an array of 0",
+        _ => "a variant without parts",
+    };
+    let above = match spot.above.last() {
+        None => "alone",
+        Some((3, _)) => "in an Either",
+        Some((4, _)) => "in an Option",
+        Some((5, _)) => "in a Tuple",
+        Some((6, _)) => "in an Array",
+        Some((7, _)) => "in a List",
+        Some((8, 1)) => "in an Enum of one",
+        Some((8, _)) => "in an Enum",
+        Some((_, 1)) => "as a payload",
+        Some(_) => "in a payload",
+    };
+    format!("20 at {read} {above}")
+}
+
+/// At which spots of a shape anything but a unit stands, and how these meet what is not of the type.
+fn lacking_units(case: &Case) -> Vec<String> {
+    let Some((ty, shape)) = shape_file(case.entry, &case.args) else { return vec![] };
+    let met = met(&ty, shape);
+    let lacking = met.lacking();
+    let mut all = vec![];
+    let mut put = |holds: bool, name: String| {
+        if holds {
+            all.push(name);
+        }
+    };
+    if let Some(val) = reconstructed(&ty, shape) {
+        lacking.iter().for_each(|spot| put(true, spot_name(spot)));
+        put(true, format!("20 at {} spots", ["0", "1", "2", "3 or more"][lacking.len().min(3)]));
+        put(lacking.len() < met.spots.len(), "20 beside a spot with its unit".into());
+        put(check_lowering(&ty) == Err(6), "20, a Never that is not reached".into());
+        put(check_lowering(&ty) == Err(7), "20, beyond row 7".into());
+        put(!can_be_rewritten(&ty, &val), "20 told by the walk alone".into());
+    }
+    for misfit in &met.misfits {
+        put(lacking.iter().any(|spot| spot.place < misfit.place), "10 behind 20".into());
+        put(lacking.iter().any(|spot| spot.place > misfit.place), "10 before 20".into());
+    }
+    all
+}
+
 pub fn survey(seed: u64, count: u64) -> bool {
     let mut r = Random::new(seed);
     let mut reached: BTreeMap<String, u64> = BTreeMap::new();
@@ -91,6 +145,7 @@ pub fn survey(seed: u64, count: u64) -> bool {
         let mut all = match outcome(case.entry, &case.args) {
             Ok(result) => features(&case, &read_type(&case.args[0]).expect("the case is accepted"), &result),
             Err(16 | 21 | 22) => meetings(&case),
+            Err(10 | 20) => lacking_units(&case),
             Err(_) => continue,
         };
         all.sort();

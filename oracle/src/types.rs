@@ -163,8 +163,34 @@ fn mentions_never(ty: &Ty) -> bool {
     *ty == Ty::Never || children(ty).into_iter().any(mentions_never)
 }
 
-fn all_small(ty: &Ty) -> bool {
+pub fn all_small(ty: &Ty) -> bool {
     size(ty) <= 65_536 && children(ty).into_iter().all(all_small)
+}
+
+/// The type with an empty tuple in place of each Never.
+pub fn without_never(ty: &Ty) -> Ty {
+    let inner = |t: &Ty| Box::new(without_never(t));
+    let all = |parts: &[Ty]| parts.iter().map(without_never).collect();
+    match ty {
+        Ty::Never => Ty::Tuple(vec![]),
+        Ty::Bool | Ty::UInt(_) => ty.clone(),
+        Ty::Either(l, r) => Ty::Either(inner(l), inner(r)),
+        Ty::Option(t) => Ty::Option(inner(t)),
+        Ty::Tuple(parts) => Ty::Tuple(all(parts)),
+        Ty::Array(n, t) => Ty::Array(*n, inner(t)),
+        Ty::List(bound, t) => Ty::List(*bound, inner(t)),
+        Ty::Enum(variants) => Ty::Enum(variants.iter().map(|parts| all(parts)).collect()),
+    }
+}
+
+/// The trees that lowering makes, where an element's tree is made once and shared.
+pub fn lowering_work(ty: &Ty) -> usize {
+    let own = match ty {
+        Ty::Array(n, _) | Ty::List(n, _) => *n,
+        Ty::Enum(variants) => variants.len(),
+        _ => 1,
+    };
+    own + children(ty).into_iter().map(lowering_work).sum::<usize>()
 }
 
 /// A number that is far too large already stays so.

@@ -1,5 +1,7 @@
 //! Value files and shapes, written plainly from 01.
 
+use std::cell::Cell;
+
 use crate::types::{balanced, split, Ty};
 
 /// A value. An integer is its 32 bytes.
@@ -28,6 +30,14 @@ impl Val {
     /// The records of the value's file.
     pub fn records(&self) -> usize {
         1 + self.children().iter().map(|v| v.records()).sum::<usize>()
+    }
+
+    /// The spots of the value's shapes.
+    pub fn spots(&self) -> usize {
+        match self {
+            Val::Tuple(all) | Val::Array(all) | Val::Enum(_, all) if all.is_empty() => 1,
+            _ => self.children().iter().map(|v| v.spots()).sum(),
+        }
     }
 }
 
@@ -135,17 +145,20 @@ pub fn put_first_record(val: &Val, out: &mut Vec<u8>) {
     }
 }
 
-/// What a shape holds where no one looks: under an empty tuple, an array of 0, a variant without parts.
-pub type Under<'a> = &'a dyn Fn(&mut Vec<u8>);
+/// Puts what stands at a spot of a shape: where an empty tuple, an array of 0 or a variant without parts is read.
+type AtSpot<'a> = &'a dyn Fn(&mut Vec<u8>);
 
-/// The shape of a value of a type, with units where no one looks.
+/// The shape of a value of a type, with units at its spots.
 pub fn shape(ty: &Ty, val: &Val) -> Vec<u8> {
-    shape_over(ty, val, &|out| out.push(0))
+    shape_over(ty, val, &|_, out| out.push(0))
 }
 
-pub fn shape_over(ty: &Ty, val: &Val, under: Under) -> Vec<u8> {
+/// A shape of a value of a type, with what is put at its spots, which are numbered from 0.
+pub fn shape_over(ty: &Ty, val: &Val, put: &dyn Fn(usize, &mut Vec<u8>)) -> Vec<u8> {
+    let next = Cell::new(0);
+    let at_spot = |out: &mut Vec<u8>| put(next.replace(next.get() + 1), out);
     let mut out = vec![];
-    put_shape(ty, val, under, &mut out);
+    put_shape(ty, val, &at_spot, &mut out);
     out
 }
 
@@ -153,7 +166,7 @@ fn put_bit(bit: bool, out: &mut Vec<u8>) {
     out.extend([1 + bit as u8, 0]);
 }
 
-fn put_shape(ty: &Ty, val: &Val, under: Under, out: &mut Vec<u8>) {
+fn put_shape(ty: &Ty, val: &Val, at_spot: AtSpot, out: &mut Vec<u8>) {
     match (ty, val) {
         (_, Val::Bool(bit)) => put_bit(*bit, out),
         (_, Val::UInt(bits, integer)) => balanced(3, 0, *bits, out, &|i, out| {
@@ -162,33 +175,33 @@ fn put_shape(ty: &Ty, val: &Val, under: Under, out: &mut Vec<u8>) {
         }),
         (Ty::Either(l, r), Val::Either(right, v)) => {
             out.push(1 + *right as u8);
-            put_shape(if *right { r } else { l }, v, under, out);
+            put_shape(if *right { r } else { l }, v, at_spot, out);
         }
         (_, Val::Option(None)) => out.extend([1, 0]),
         (Ty::Option(t), Val::Option(Some(v))) => {
             out.push(2);
-            put_shape(t, v, under, out);
+            put_shape(t, v, at_spot, out);
         }
-        (Ty::Tuple(types), Val::Tuple(all)) => put_product(&|i| &types[i], all, under, out),
-        (Ty::Array(_, t), Val::Array(all)) => put_product(&|_| t, all, under, out),
-        (Ty::List(bound, t), Val::List(all)) => put_blocks(*bound, t, all, under, out),
+        (Ty::Tuple(types), Val::Tuple(all)) => put_product(&|i| &types[i], all, at_spot, out),
+        (Ty::Array(_, t), Val::Array(all)) => put_product(&|_| t, all, at_spot, out),
+        (Ty::List(bound, t), Val::List(all)) => put_blocks(*bound, t, all, at_spot, out),
         (Ty::Enum(variants), Val::Enum(index, all)) => {
             put_injection(*index, variants.len(), out);
-            put_product(&|i| &variants[*index][i], all, under, out)
+            put_product(&|i| &variants[*index][i], all, at_spot, out)
         }
         _ => unreachable!("the value is of the type"),
     }
 }
 
-fn put_product<'a>(ty: &dyn Fn(usize) -> &'a Ty, all: &[Val], under: Under, out: &mut Vec<u8>) {
+fn put_product<'a>(ty: &dyn Fn(usize) -> &'a Ty, all: &[Val], at_spot: AtSpot, out: &mut Vec<u8>) {
     match all.len() {
-        0 => under(out),
-        n => balanced(3, 0, n, out, &|i, out| put_shape(ty(i), &all[i], under, out)),
+        0 => at_spot(out),
+        n => balanced(3, 0, n, out, &|i, out| put_shape(ty(i), &all[i], at_spot, out)),
     }
 }
 
 /// The largest block first, if enough elements remain for it.
-fn put_blocks(bound: usize, t: &Ty, all: &[Val], under: Under, out: &mut Vec<u8>) {
+fn put_blocks(bound: usize, t: &Ty, all: &[Val], at_spot: AtSpot, out: &mut Vec<u8>) {
     let block = bound / 2;
     if bound > 2 {
         out.push(3);
@@ -198,10 +211,10 @@ fn put_blocks(bound: usize, t: &Ty, all: &[Val], under: Under, out: &mut Vec<u8>
         out.extend([1, 0]);
     } else {
         out.push(2);
-        put_product(&|_| t, first, under, out);
+        put_product(&|_| t, first, at_spot, out);
     }
     if bound > 2 {
-        put_blocks(block, t, rest, under, out);
+        put_blocks(block, t, rest, at_spot, out);
     }
 }
 
@@ -247,7 +260,7 @@ pub fn tree_end(shape: &[u8], from: usize) -> Option<usize> {
     None
 }
 
-/// The value that a shape reads as. The shape is one tree.
+/// The value that a shape reads as, whatever stands at its spots. The shape is one tree.
 pub fn reconstruct(ty: &Ty, shape: &[u8]) -> Option<Val> {
     let mut at = 0;
     let val = take_shape(ty, shape, &mut at)?;

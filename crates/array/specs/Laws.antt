@@ -13,7 +13,7 @@ use Rattle.model.specs.Outcome.{done, refused, _>>=_, or-refuse, all-read}
 use Rattle.model.specs.Options.{mapO, bindO}
 use Rattle.model.specs.Structural.{SValue, unit, left, right, pair, shape-records}
 use Rattle.model.specs.ShapeFiles.{read-shape, shape-of}
-use Rattle.model.specs.Laws.ShapeFiles.{shape-records-read, shape-read-written}
+use Rattle.model.specs.Laws.ShapeFiles.{shape-some, shape-records-read, shape-read-written}
 use Rattle.array.specs.declared.TreeEnd.{TreeEnd}
 use Rattle.array.specs.declared.TreeEnd.the-variants.{At, Nothing}
 use Rattle.array.specs.Ends.{closes, tree-end-of}
@@ -85,13 +85,6 @@ pub record Tree (fuel : ℕ) (s : List ℕ) (at to : ℕ) : Type 0 where
   pub size : to ≡ at + length (shape-records tree)
   pub after : at < to
   pub inside : to ≤ length s
-
-shape-some : (s : SValue) → 1 ≤ length (shape-records s)
-unfolding shape-records
-shape-some unit = omega arith
-shape-some (left s) = omega arith
-shape-some (right s) = omega arith
-shape-some (pair s t) = omega arith
 
 -- where there is an end a tree is read
 pub tree-end-at : (fuel : ℕ) (s : List ℕ) (at to : ℕ) → length (drop at s) ≤ fuel → tree-end-of s at ≡ At to → Tree fuel s at to

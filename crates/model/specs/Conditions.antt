@@ -1,6 +1,6 @@
 -- What demands 2 and 3 speak of, each by itself, in 01's words ('Shape', 'Part read and part edit', 'The words of demand 3'); nothing here mentions the edit.
 use mathlib.Core.Path.{_≡_}
-use mathlib.Core.Bool.{false}
+use mathlib.Core.Bool.{true, false}
 use mathlib.Core.List.{List}
 use mathlib.Core.Option.{some}
 use Prim.Native.Nat.{ℕ}
@@ -11,12 +11,13 @@ use Rattle.model.specs.Structural.{SValue, Belongs}
 use Rattle.model.specs.Types.{Ty}
 use Rattle.model.specs.Lowering.{lower}
 use Rattle.model.specs.Values.{Value}
+use Rattle.model.specs.Spots.{lacks-unit}
 use Rattle.model.specs.ShapeFiles.{shape-of}
 use Rattle.model.specs.ValueFiles.{value-of}
 use Rattle.model.specs.Frames.{Place, frame-bytes, stray-bits, unframe}
 use Rattle.model.specs.Paths.{Found, steps, found}
 use Rattle.model.specs.Parts.{Part, part}
-use Rattle.model.specs.Operations.{lowering, unframed}
+use Rattle.model.specs.Operations.{Reading, earlier-reading, lowering, unframed}
 
 -- a shape belongs to a type if it is one of the lowered type
 pub record ShapeBelongs (ty shape : List ℕ) : Type 0 where
@@ -25,6 +26,12 @@ pub record ShapeBelongs (ty shape : List ℕ) : Type 0 where
   pub tree : SValue
   pub says : shape-of shape ≡ done tree
   pub belongs : Belongs (lower type) tree
+
+-- a shape lacks a unit (02, R-5): it is read, and anything but a unit stands where an empty tuple, an array of 0 or a variant without parts is read
+pub record LacksUnit (ty shape : List ℕ) : Type 0 where
+  pub read : Reading
+  pub reads : earlier-reading ty shape ≡ done read
+  pub lacks : lacks-unit (read .type) (read .tree) ≡ true
 
 -- THE FOUR CONDITIONS
 

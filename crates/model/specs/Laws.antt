@@ -11,6 +11,7 @@ pub mod Shapes
 pub mod Frames
 pub mod ShapeFiles
 pub mod Valid
+pub mod Spots
 pub mod ValueFiles
 pub mod Faults
 pub mod FrameFiles
@@ -23,4 +24,5 @@ pub mod Operations
 pub mod Demands
 pub mod Cases
 pub mod Numbered
+pub mod Units
 pub mod Edits

@@ -10,6 +10,7 @@ pub mod TypeFiles
 pub mod Lowering
 pub mod Values
 pub mod Reconstruct
+pub mod Spots
 pub mod ShapeFiles
 pub mod ValueFiles
 pub mod Faults

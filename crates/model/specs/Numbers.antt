@@ -47,6 +47,10 @@ not-one-tree = 9
 abbrev pub not-reconstructed : ℕ
 not-reconstructed = 10
 
+-- then: anything but a unit stands where an empty tuple, an array of 0 or a variant without parts is read (02, R-5)
+abbrev pub no-unit : ℕ
+no-unit = 20
+
 -- FRAME
 
 -- length other than the type's

@@ -5,14 +5,15 @@ use mathlib.Core.List.{List, _++_}
 use Prim.Native.Nat.{ℕ}
 use lib.Dec.{ltb}
 use lib.ListN.{length, drop}
-use Rattle.model.specs.Numbers.{never-stands, too-large, not-reconstructed, no-such-part, no-room}
+use Rattle.model.specs.Numbers.{never-stands, too-large, not-reconstructed, no-unit, no-such-part, no-room}
 use Rattle.model.specs.Outcome.{Outcome, done, refused, _>>=_, _>>_, refuse, or-refuse}
-use Rattle.model.specs.Structural.{type-records}
+use Rattle.model.specs.Structural.{SValue, type-records}
 use Rattle.model.specs.Types.{Ty}
 use Rattle.model.specs.TypeFiles.{type-of}
 use Rattle.model.specs.Lowering.{lower, has-never, over-large}
-use Rattle.model.specs.Values.{inject}
+use Rattle.model.specs.Values.{Value, inject}
 use Rattle.model.specs.Reconstruct.{reconstruct}
+use Rattle.model.specs.Spots.{lacks-unit}
 use Rattle.model.specs.ShapeFiles.{shape-of, shape-file}
 use Rattle.model.specs.ValueFiles.{value-of, value-file}
 use Rattle.model.specs.Frames.{Place, frame-file, unframe}
@@ -39,13 +40,32 @@ shaped ty val = do
   v ← value-of t val
   done (shape-file (inject t v))
 
--- the value file that reading a shape gives
-unfoldable pub reconstructed : List ℕ → List ℕ → Outcome (List ℕ)
-reconstructed ty shape = do
+-- what the Rust reads of a shape: the type, the shape's tree, the value
+pub record Reading : Type 0 where
+  pub type : Ty
+  pub tree : SValue
+  pub value : Value type
+
+-- the earlier reading (02, R-5), the Rust's
+unfoldable pub earlier-reading : List ℕ → List ℕ → Outcome Reading
+earlier-reading ty shape = do
   t ← type-of ty
   s ← shape-of shape
   v ← or-refuse not-reconstructed (reconstruct t s)
-  done (value-file t v)
+  done (record { type = t; tree = s; value = v })
+
+-- the value file that it gives
+unfoldable pub earlier-reconstructed : List ℕ → List ℕ → Outcome (List ℕ)
+earlier-reconstructed ty shape = do
+  r ← earlier-reading ty shape
+  done (value-file (r .type) (r .value))
+
+-- the value file that reading a shape gives: today's reading refuses what lacks a unit
+unfoldable pub reconstructed : List ℕ → List ℕ → Outcome (List ℕ)
+reconstructed ty shape = do
+  r ← earlier-reading ty shape
+  refuse no-unit (lacks-unit (r .type) (r .tree))
+  done (value-file (r .type) (r .value))
 
 module _ (p : Place) where
   -- the frame of a value

@@ -1,5 +1,5 @@
 -- `Value::reconstruct` and the Rust's `mod destruct`, function by function (01, 'Value file').
--- It never looks under an empty tuple, an array of 0 or a variant without parts, and refuses Never only where it is reached.
+-- It never looks where an empty tuple, an array of 0 or a variant without parts is read (`Spots` does), and refuses Never only where it is reached.
 use mathlib.Core.Bool.{Bool, true, false}
 use mathlib.Core.List.{List, [], _∷_, _++_}
 use mathlib.Core.Logic.{inl, inr}

@@ -1,26 +1,29 @@
--- Demand 2 of the entries, said of calls: what a call of one entry left in its buffer, a call of the other turns back into the file it came from.
+-- Demand 2 of the entries, said of calls: what a call of one entry left in its buffer, a call of the other turns back into the file it came from;
+-- and where a unit belongs (02, R-5).
 -- A corollary of what is promised of each call (`Calls`) and of the model's laws. Every list here is what a slice of bytes held.
 use mathlib.Core.Path.{_≡_, refl, sym, ap, _∙_}
 use mathlib.Core.Bool.{Bool, true, false}
 use mathlib.Core.List.{List, _++_}
 use Prim.Native.Nat.{ℕ, _≤_, _<_}
+use mathlib.Core.Logic.{_↔_}
 use native.Mathlib.Omega.{arith}
 use lib.Dec.{ltb}
 use lib.ListN.{length, take, drop}
 use lib.Seq.{take-at}
 use borrow.Author.Tests.{ltb-true, ltb-false, le-ltb, lt-ltb}
-use Rattle.model.specs.Numbers.{no-room}
+use Rattle.model.specs.Numbers.{no-unit, no-room}
 use Rattle.model.specs.Outcome.{Outcome, done, refused}
 use Rattle.model.specs.Bytes.{Bytes}
 use Rattle.model.specs.Frames.{after}
 use Rattle.model.specs.Types.{Ty}
 use Rattle.model.specs.Values.{Value}
 use Rattle.model.specs.ValueFiles.{value-of}
-use Rattle.model.specs.Operations.{lowering, shaped, reconstructed, framed, unframed, delivered}
-use Rattle.model.specs.Conditions.{ShapeBelongs, FrameAccepted}
+use Rattle.model.specs.Operations.{lowering, shaped, earlier-reconstructed, reconstructed, framed, unframed, delivered}
+use Rattle.model.specs.Conditions.{ShapeBelongs, LacksUnit, TypeLowers, FrameAccepted}
 use Rattle.model.specs.Laws.Outcome.{done-injective}
 use Rattle.model.specs.Laws.Numbered.{never-zero, shaped-row, reconstructed-row, framed-row, unframed-row}
 use Rattle.model.specs.Laws.Demands.{OneValue, value-has-shape, value-has-frame, shape-reads-back, belonging-shape-reads, frame-reads-back, accepted-frame-reads, frame-accepted}
+use Rattle.model.specs.Laws.Units.{no-unit-row, elsewhere-earlier, accepted-written, accepted-belongs}
 use Rattle.model.specs.Calls.{WriteShape, Reconstruct, WriteFrame, ReadFrame}
 
 -- WHAT IS SAID OF CALLS
@@ -88,6 +91,18 @@ accepted o rows before len left h = go o refl
     go (done file) e = room file e (ltb (length before) (length file)) refl
     go (refused m) e = let (z, _, _) = parts _ _ (h ∙ refuses o m before e) in absurd (omega (arith, rows m e))
 
+-- where a call was refused, and not for its buffer, the operation refuses with the call's number
+denied : (o : Outcome (List ℕ)) (before : List ℕ) (n len : ℕ) (left : List ℕ) → (n ≡ 0 → ⊥) → (n ≡ no-room → ⊥) → _≡_ {A = Answer} (n, len, left) (delivered o before) → o ≡ refused n
+denied o before n len left some other h = go o refl
+  where
+    room : (file : List ℕ) → o ≡ done file → (t : Bool) → ltb (length before) (length file) ≡ t → o ≡ refused n
+    room file e true l = absurd (other (parts _ _ (h ∙ withholds o file before e (ltb-true (length before) (length file) l)) .0))
+    room file e false l = absurd (some (parts _ _ (h ∙ delivers o file before e (ltb-false (length before) (length file) l)) .0))
+
+    go : (x : Outcome (List ℕ)) → o ≡ x → o ≡ refused n
+    go (done file) e = room file e (ltb (length before) (length file)) refl
+    go (refused m) e = e ∙ ap refused (sym (parts _ _ (h ∙ refuses o m before e) .0))
+
 -- where one operation turns back what the other gives, so do the calls
 returns : (one other : List ℕ → Outcome (List ℕ)) (file : List ℕ) → ((m : ℕ) → one file ≡ refused m → 1 ≤ m) → ((x : List ℕ) → one file ≡ done x → other x ≡ done file) → Returns (calls one) (calls other) file
 returns one other file rows back before len left h = makes other (take len left) file (back (take len left) (accepted (one file) rows before len left h))
@@ -111,9 +126,13 @@ module _ (ty : List ℕ) (b : Bytes ty) where
   pub shape-taken : (shape : List ℕ) → ShapeBelongs ty shape → (val : List ℕ) × Makes (Reconstruct ty) shape val
   shape-taken shape s = let r = belonging-shape-reads ty b shape s in (r .val, makes (reconstructed ty) shape (r .val) (r .read))
 
-  -- and what a call of `reconstruct` left of it, a call of `write_shape` writes to that shape again
-  pub value-returns : (shape : List ℕ) → ShapeBelongs ty shape → Returns (Reconstruct ty) (WriteShape ty) shape
-  value-returns shape s = returns (reconstructed ty) (shaped ty) shape (never-zero (reconstructed-row ty shape) refl) (again (belonging-shape-reads ty b shape s))
+  -- of a type that lowers, no other shape is accepted
+  pub shape-accepted : TypeLowers ty → (shape before : List ℕ) (len : ℕ) (left : List ℕ) → Reconstruct ty shape before 0 len left → ShapeBelongs ty shape
+  shape-accepted l shape before len left h = accepted-belongs ty b l shape .0 (take len left, accepted (reconstructed ty shape) (never-zero (reconstructed-row ty shape) refl) before len left h)
+
+  -- and what an accepted call of `reconstruct` left, whatever the shape, a call of `write_shape` writes to that shape again
+  pub value-returns : TypeLowers ty → (shape : List ℕ) → Returns (Reconstruct ty) (WriteShape ty) shape
+  value-returns l shape = returns (reconstructed ty) (shaped ty) shape (never-zero (reconstructed-row ty shape) refl) (λ val e. accepted-written ty b l shape val e)
 
   -- likewise every call of `write_frame` one frame, which is accepted for the type
   pub value-framed : (t : Ty) → lowering ty ≡ done t → (val : List ℕ) (v : Value t) → value-of t val ≡ done v → Bytes val → (frame : List ℕ) × Makes (WriteFrame ty) val frame × FrameAccepted after ty frame
@@ -130,3 +149,14 @@ module _ (ty : List ℕ) (b : Bytes ty) where
   -- and what an accepted call of `read_frame` left, whatever the frame, a call of `write_frame` writes to that frame again
   pub frame-again : (frame : List ℕ) → Bytes frame → Returns (ReadFrame ty) (WriteFrame ty) frame
   frame-again frame c = returns (unframed after ty) (framed after ty) frame (never-zero (unframed-row after ty frame) refl) (λ val e. again (accepted-frame-reads ty b after frame c (frame-accepted ty b after frame c .0 (val, e))) val e)
+
+-- WHERE A UNIT BELONGS (02, R-5), whatever the type
+
+module _ (ty shape before : List ℕ) (n len : ℕ) (left : List ℕ) (h : Reconstruct ty shape before n len left) where
+  -- a call of `reconstruct` is answered by 20 exactly where the shape is one that the Rust reads and that lacks a unit
+  pub no-unit-told : (n ≡ no-unit) ↔ LacksUnit ty shape
+  no-unit-told = ((λ e. no-unit-row ty shape .0 (denied (reconstructed ty shape) before n len left (λ z. omega arith) (λ z. omega arith) h ∙ ap refused e)), λ l. parts _ _ (h ∙ refuses (reconstructed ty shape) no-unit before (no-unit-row ty shape .1 l)) .0)
+
+  -- and elsewhere it was answered, and its buffer left, as by the earlier reading, the Rust's
+  pub elsewhere-told : (LacksUnit ty shape → ⊥) → (n, len, left) ≡ delivered (earlier-reconstructed ty shape) before
+  elsewhere-told l = h ∙ ap (λ o. delivered o before) (elsewhere-earlier ty shape l)

@@ -32,7 +32,7 @@ pub fn write_shape(ty: &[u8], value: &[u8], out: &mut [u8]) -> Reply
 }
 
 // Writes the value file that a shape gives as one of the type over the front of `out`, and answers its length; every byte behind it stays, and all of them where it is refused.
-// It needs no lowering: a Never is refused only where the shape reaches it.
+// It needs no lowering: a Never is refused only where the shape reaches it. Where an empty tuple, an array of 0 or a variant without parts is read, only a unit may stand.
 pub fn reconstruct(ty: &[u8], shape: &[u8], out: &mut [u8]) -> Reply
     ensures { λ r. ⌜ Reconstruct (now (ty .entry)) (now (shape .entry)) (now (out .entry)) (numberOf r) (lengthOf r) (now (out .exit)) ⌝ }
 {

@@ -63,7 +63,7 @@ pub fn write_shape(ty: &[u8], read: Read, columns: &[usize], value: &[u8], out: 
 }
 
 // Writes the value file that a shape gives as one of the type over the front of `out`, and answers its length; every byte behind it stays, and all of them where it is refused.
-// It needs no lowering: a Never is refused only where the shape reaches it.
+// It needs no lowering: a Never is refused only where the shape reaches it. Where an empty tuple, an array of 0 or a variant without parts is read, only a unit may stand.
 pub fn reconstruct(ty: &[u8], read: Read, columns: &[usize], shape: &[u8], out: &mut [u8]) -> Reply
     requires { ⌜ TypeRead false (now ty) read (now columns) ⌝ }
     ensures { λ r. ⌜ Reconstruct (now (ty .entry)) (now (shape .entry)) (now (out .entry)) (numberOf r) (lengthOf r) (now (out .exit)) ⌝ }
@@ -76,7 +76,10 @@ pub fn reconstruct(ty: &[u8], read: Read, columns: &[usize], shape: &[u8], out: 
                 ShapeAnswer::Refused(x) => Reply::Refused(x),
                 ShapeAnswer::Ok => match value_records(ty, ends, shape) {
                     Records::Not => Reply::Refused(Refusal::NotReconstructed),
-                    Records::Of(n) => {
+                    Records::Of(n, surplus) => {
+                        if surplus != 0 {
+                            return Reply::Refused(Refusal::NoUnit);
+                        }
                         if out.len() < n * 36 {
                             return Reply::Refused(Refusal::NoRoom);
                         }

@@ -19,7 +19,7 @@ use Rattle.rebuild.specs.declared.Parts.{Parts}
 use Rattle.rebuild.specs.declared.Parts.the-variants.{Bits, Copies, Types}
 use Rattle.rebuild.specs.declared.Read.{Read}
 use Rattle.rebuild.specs.declared.Read.the-variants.{Of, Not}
-use Rattle.rebuild.specs.Reads.{Reader, bits, products, choices, blocks, lists, reads, readers}
+use Rattle.rebuild.specs.Kinds.{Readers, bits, products, choices, blocks, lists, reads, readers}
 
 -- no value read has more records than this: 33 for each of the shape's
 abbrev pub most-records : ℕ
@@ -31,8 +31,17 @@ pub record Limits (sh : List ℕ) (d : ℕ) : Type 0 where
   pub low : d ≤ 32
 
 abbrev pub count-of : Read → ℕ
-count-of (Of e n) = n
+count-of (Of e n k) = n
 count-of Not = 0
+
+abbrev pub surplus-of : Read → ℕ
+surplus-of (Of e n k) = k
+surplus-of Not = 0
+
+-- so many records of the value, and so much surplus, are no more than that
+pub record Few (n k : ℕ) : Type 0 where
+  pub records : n ≤ most-records
+  pub surplus : k ≤ most-records
 
 -- the form of what a record says
 abbrev pub form-of : Head → Form
@@ -73,39 +82,39 @@ GivenPart Types d s E p = Stands d s E p
 pub record GivenParts (k : Parts) (d : ℕ) (s E : List ℕ) (n p : ℕ) : Type 0 where
   pub each : (i : ℕ) → i < n → GivenPart k d s E (skip k E i p)
 
-module _ (sh : List ℕ) where
+module _ {A : Type 0} (W : Readers A) where
   -- v: a Variant stands here
-  unfoldable pub reading : ℕ → Bool → List ℕ → ℕ → Reader
-  reading d false s p = reads sh (tree d s p)
-  reading d true s p = products sh (size (treev d s p)) (readers sh (treev d s p))
+  unfoldable pub reading : ℕ → Bool → List ℕ → ℕ → A
+  reading d false s p = reads W (tree d s p)
+  reading d true s p = products W (size (treev d s p)) (readers W (treev d s p))
 
   -- what stands at a record, be it a type or a Variant
-  unfoldable pub standing : ℕ → List ℕ → ℕ → Reader
+  unfoldable pub standing : ℕ → List ℕ → ℕ → A
   standing d s p = reading d (is-variant (recAt s p)) s p
 
   -- the part at a record
-  abbrev pub part : Parts → ℕ → List ℕ → ℕ → Reader
-  part Bits d s p = bits sh
+  abbrev pub part : Parts → ℕ → List ℕ → ℕ → A
+  part Bits d s p = bits W
   part Copies d s p = standing d s p
   part Types d s p = standing d s p
 
   -- n parts
-  unfoldable pub row : Parts → ℕ → List ℕ → List ℕ → ℕ → ℕ → List Reader
+  unfoldable pub row : Parts → ℕ → List ℕ → List ℕ → ℕ → ℕ → List A
   row k d s E zero p = []
   row k d s E (suc n) p = part k d s p ∷ row k d s E n (skip k E 1 p)
 
   -- their balanced product
-  unfoldable pub balanced : Parts → ℕ → List ℕ → List ℕ → ℕ → ℕ → Reader
-  balanced k d s E n p = products sh n (row k d s E n p)
+  unfoldable pub balanced : Parts → ℕ → List ℕ → List ℕ → ℕ → ℕ → A
+  balanced k d s E n p = products W n (row k d s E n p)
 
   -- the balanced sum of n records in a row
-  unfoldable pub chosen : ℕ → List ℕ → List ℕ → ℕ → ℕ → Reader
-  chosen d s E n p = choices sh n (row Types d s E n p)
+  unfoldable pub chosen : ℕ → List ℕ → List ℕ → ℕ → ℕ → A
+  chosen d s E n p = choices W n (row Types d s E n p)
 
   -- a block of n, each of them what stands at p
-  unfoldable pub block-of : ℕ → List ℕ → ℕ → ℕ → Reader
-  block-of d s n p = blocks sh n (standing d s p)
+  unfoldable pub block-of : ℕ → List ℕ → ℕ → ℕ → A
+  block-of d s n p = blocks W n (standing d s p)
 
   -- the list with the bound of what stands at p
-  unfoldable pub listed : ℕ → List ℕ → NonZeroPow2Usize → ℕ → Reader
-  listed d s b p = lists sh (bound-log2 (b .0) - 1) (standing d s p)
+  unfoldable pub listed : ℕ → List ℕ → NonZeroPow2Usize → ℕ → A
+  listed d s b p = lists W (bound-log2 (b .0) - 1) (standing d s p)

@@ -1,4 +1,5 @@
 pub mod Places
+pub mod Counting
 pub mod Counts
 pub mod Model
 pub mod Small

@@ -1,4 +1,5 @@
-// Shape files, and the first pass of `reconstruct`, after value.rs: a type and a shape are walked together, and the records of the value file are counted.
+// Shape files, and the first pass of `reconstruct`, after value.rs: a type and a shape are walked together, and the records of the value file
+// are counted, and the shape's records beyond one where a unit belongs.
 use array::TreeEnd;
 use array::btree_split_index;
 use array::tree_end;
@@ -18,9 +19,9 @@ ghost use Rattle.types.specs.Trees.{typeOf};
 ghost use Rattle.types.specs.Steps.{Given};
 ghost use Rattle.rebuild.specs.declared.Parts.the-variants.{Types};
 ghost use Rattle.rebuild.specs.ShapeRows.{ShapeTold};
-ghost use Rattle.rebuild.specs.Reads.{plus, units, passes, bits, value-records};
+ghost use Rattle.rebuild.specs.Reads.{plus, units, passes, bit, reader, value-records};
 ghost use Rattle.structural.specs.Forms.{most-parts, Stands};
-ghost use Rattle.rebuild.specs.Forms.{most-records, Limits, count-of, form-of, skip, Hopped, GivenParts, standing, balanced, chosen, block-of, listed};
+ghost use Rattle.rebuild.specs.Forms.{most-records, Few, Limits, count-of, surplus-of, form-of, skip, Hopped, GivenParts, standing, balanced, chosen, block-of, listed};
 
 // The records of a shape, and a byte that is none.
 const UNIT: u8 = 0;
@@ -38,15 +39,16 @@ const RECORDS: usize = 65536;
 
 const LEVELS: usize = 32;
 
-// What reading gives: the place after the shape that was read and the number of value records, or that it cannot be read.
+// What reading gives: the place after the shape that was read, the number of value records and the surplus, or that it cannot be read.
+// The surplus is the shape's records beyond one where an empty tuple, an array of 0 or a variant without parts is read.
 enum Read {
-    Of(usize, usize),
+    Of(usize, usize, usize),
     Not,
 }
 
-// How many records a value file has, or that there is none.
+// How many records a value file has, and the shape's surplus; or that there is no value.
 pub enum Records {
-    Of(usize),
+    Of(usize, usize),
     Not,
 }
 
@@ -105,23 +107,24 @@ fn record_at(shape: &[u8], p: usize) -> u8
     shape[p]
 }
 
-// What was read, with n records more.
-fn plus(n: usize, r: Read) -> Read
-    requires { ⌜ (n ≤ most-records) × (count-of r ≤ most-records) ⌝ }
-    ensures { λ x. ⌜ x ≡ plus n r ⌝ }
+// What was read, with n records more and k more of surplus.
+fn plus(n: usize, k: usize, r: Read) -> Read
+    requires { ⌜ (n ≤ most-records) × (k ≤ most-records) ⌝ }
+    requires { ⌜ Few (count-of r) (surplus-of r) ⌝ }
+    ensures { λ x. ⌜ x ≡ plus n k r ⌝ }
 {
     match r {
         Read::Not => Read::Not,
-        Read::Of(next, count) => Read::Of(next, n + count),
+        Read::Of(next, count, surplus) => Read::Of(next, n + count, k + surplus),
     }
 }
 
-// Passes over any tree at place p.
+// Passes over any tree at place p: all but its first record is surplus.
 fn read_any(shape: &[u8], p: usize) -> Read
     ensures { λ r. ⌜ r ≡ passes (now (shape .entry)) p ⌝ }
 {
     match tree_end(shape, p) {
-        TreeEnd::At(next) => Read::Of(next, 0),
+        TreeEnd::At(next) => Read::Of(next, 0, next - (p + 1)),
         TreeEnd::Nothing => Read::Not,
     }
 }
@@ -131,14 +134,14 @@ fn read_unit(shape: &[u8], p: usize) -> Read
     ensures { λ r. ⌜ r ≡ units (now (shape .entry)) p ⌝ }
 {
     if record_at(shape, p) == UNIT {
-        return Read::Of(p + 1, 0);
+        return Read::Of(p + 1, 0, 0);
     }
     Read::Not
 }
 
 // Reads a bit at place p, a left or a right with a unit.
 fn read_bit(shape: &[u8], p: usize) -> Read
-    ensures { λ r. ⌜ r ≡ bits (now (shape .entry)) p ⌝ }
+    ensures { λ r. ⌜ r ≡ bit (now (shape .entry)) p ⌝ }
 {
     let side = record_at(shape, p);
     if side == LEFT {
@@ -154,18 +157,23 @@ fn read_bit(shape: &[u8], p: usize) -> Read
 fn read_record(ty: &[u8], ends: &[usize], at: usize, level: usize, shape: &[u8], p: usize) -> Read
     requires { ⌜ Stands level (now ty) (now ends) at ⌝ }
     requires { ⌜ Limits (now shape) level ⌝ }
-    ensures { λ r. ⌜ r ≡ standing (now (shape .entry)) level (now (ty .entry)) at p ⌝ }
+    ensures { λ r. ⌜ r ≡ standing (reader (now (shape .entry))) level (now (ty .entry)) at p ⌝ }
 {
     match form_of(head_at(ty, at)) {
         Form::Refused => Read::Not,
         Form::Product(parts, n) => {
             plus(
                 1,
+                0,
                 read_product(ty, ends, at + 1, level - 1, n, parts, shape, p),
             )
         }
-        Form::Sum(n) => plus(1, read_sum(ty, ends, at + 1, level - 1, n, shape, p)),
-        Form::List(bound) => plus(1, read_list(ty, ends, at + 1, level - 1, bound, shape, p)),
+        Form::Sum(n) => plus(1, 0, read_sum(ty, ends, at + 1, level - 1, n, shape, p)),
+        Form::List(bound) => plus(
+            1,
+            0,
+            read_list(ty, ends, at + 1, level - 1, bound, shape, p),
+        ),
         Form::Payload(n) => { read_product(ty, ends, at + 1, level - 1, n, Parts::Types, shape, p) }
     }
 }
@@ -196,7 +204,7 @@ fn read_product(
     requires { ⌜ n ≤ most-parts ⌝ }
     requires { ⌜ GivenParts parts level (now ty) (now ends) n at ⌝ }
     requires { ⌜ Limits (now shape) level ⌝ }
-    ensures { λ r. ⌜ r ≡ balanced (now (shape .entry)) parts level (now (ty .entry)) (now (ends .entry)) n at p ⌝ }
+    ensures { λ r. ⌜ r ≡ balanced (reader (now (shape .entry))) parts level (now (ty .entry)) (now (ends .entry)) n at p ⌝ }
 {
     if n == 0 {
         return read_any(shape, p);
@@ -214,14 +222,14 @@ fn read_product(
     }
     let few = btree_split_index(n);
     let others = n - few;
-    match read_product(ty, ends, at, level, few, parts, shape, p + 1) {
+    // both sides answer into one local, which keeps the stack's frame small
+    let mut side = read_product(ty, ends, at, level, few, parts, shape, p + 1);
+    match side {
         Read::Not => Read::Not,
-        Read::Of(q, count) => {
+        Read::Of(q, count, surplus) => {
             let rest = after(ends, at, few, parts);
-            plus(
-                count,
-                read_product(ty, ends, rest, level, others, parts, shape, q),
-            )
+            side = read_product(ty, ends, rest, level, others, parts, shape, q);
+            plus(count, surplus, side)
         }
     }
 }
@@ -239,7 +247,7 @@ fn read_sum(
     requires { ⌜ (1 ≤ n) × (n ≤ most-parts) ⌝ }
     requires { ⌜ GivenParts Types level (now ty) (now ends) n at ⌝ }
     requires { ⌜ Limits (now shape) level ⌝ }
-    ensures { λ r. ⌜ r ≡ chosen (now (shape .entry)) level (now (ty .entry)) (now (ends .entry)) n at p ⌝ }
+    ensures { λ r. ⌜ r ≡ chosen (reader (now (shape .entry))) level (now (ty .entry)) (now (ends .entry)) n at p ⌝ }
 {
     if n == 1 {
         return read_record(ty, ends, at, level, shape, p);
@@ -269,7 +277,7 @@ fn read_block(
     requires { ⌜ n ≤ most-parts ⌝ }
     requires { ⌜ Stands level (now ty) (now ends) at ⌝ }
     requires { ⌜ Limits (now shape) level ⌝ }
-    ensures { λ r. ⌜ r ≡ block-of (now (shape .entry)) level (now (ty .entry)) n at p ⌝ }
+    ensures { λ r. ⌜ r ≡ block-of (reader (now (shape .entry))) level (now (ty .entry)) n at p ⌝ }
 {
     let side = record_at(shape, p);
     if side == LEFT {
@@ -294,18 +302,23 @@ fn read_list(
     requires { ⌜ FairBound bound ⌝ }
     requires { ⌜ Stands level (now ty) (now ends) at ⌝ }
     requires { ⌜ Limits (now shape) level ⌝ }
-    ensures { λ r. ⌜ r ≡ listed (now (shape .entry)) level (now (ty .entry)) bound at p ⌝ }
+    ensures { λ r. ⌜ r ≡ listed (reader (now (shape .entry))) level (now (ty .entry)) bound at p ⌝ }
 {
     match bound.checked_div2() {
-        Bound::Not => read_block(ty, ends, at, level, 1, shape, p),
+        // with nothing more: an answer that is handed on as it is takes 16 bytes more of the stack's frame
+        Bound::Not => plus(0, 0, read_block(ty, ends, at, level, 1, shape, p)),
         Bound::Of(half) => {
             if record_at(shape, p) != PAIR {
                 return Read::Not;
             }
             match read_block(ty, ends, at, level, half.get(), shape, p + 1) {
                 Read::Not => Read::Not,
-                Read::Of(q, count) => {
-                    plus(count, read_list(ty, ends, at, level, half, shape, q))
+                Read::Of(q, count, surplus) => {
+                    plus(
+                        count,
+                        surplus,
+                        read_list(ty, ends, at, level, half, shape, q),
+                    )
                 }
             }
         }
@@ -330,7 +343,8 @@ pub fn check_shape(shape: &[u8]) -> ShapeAnswer
     }
 }
 
-// The number of records of the value file that reading the shape gives, 36 bytes each, or that it cannot be read (row 10).
+// The number of records of the value file that reading the shape gives, 36 bytes each, and the shape's surplus (row 20, if there is any),
+// or that it cannot be read (row 10).
 // The type file is an accepted one with its ends; the shape is looked at from its first record on, up to the end of what the type takes.
 pub fn value_records(ty: &[u8], ends: &[usize], shape: &[u8]) -> Records
     requires { ⌜ Given 32 false (now ty) (now ends) 0 ⌝ }
@@ -339,6 +353,6 @@ pub fn value_records(ty: &[u8], ends: &[usize], shape: &[u8]) -> Records
 {
     match read_record(ty, ends, 0, LEVELS, shape, 0) {
         Read::Not => Records::Not,
-        Read::Of(_, count) => Records::Of(count),
+        Read::Of(_, count, surplus) => Records::Of(count, surplus),
     }
 }

@@ -1,8 +1,8 @@
 -- The table's number for each case of an answer.
 use Prim.Native.Nat.{ℕ}
-use Rattle.model.specs.Numbers.{type-length, type-too-long, bad-record, too-deep, not-one-type, never-stands, too-large, shape-too-long, not-one-tree, not-reconstructed, frame-length, stray-bit, path-odd, no-such-part, value-length, not-one-value, integer-too-large, list-too-long, no-room}
+use Rattle.model.specs.Numbers.{type-length, type-too-long, bad-record, too-deep, not-one-type, never-stands, too-large, shape-too-long, not-one-tree, not-reconstructed, no-unit, frame-length, stray-bit, path-odd, no-such-part, value-length, not-one-value, integer-too-large, list-too-long, no-room}
 use Rattle.reply.specs.declared.Refusal.{Refusal}
-use Rattle.reply.specs.declared.Refusal.the-variants.{TypeLength, TypeTooLong, BadRecord, TooDeep, NotOneType, NeverStands, TooLarge, ShapeTooLong, NotOneTree, NotReconstructed, FrameLength, StrayBit, PathOdd, NoSuchPart, ValueLength, NotOneValue, IntegerTooLarge, ListTooLong, NoRoom}
+use Rattle.reply.specs.declared.Refusal.the-variants.{TypeLength, TypeTooLong, BadRecord, TooDeep, NotOneType, NeverStands, TooLarge, ShapeTooLong, NotOneTree, NotReconstructed, NoUnit, FrameLength, StrayBit, PathOdd, NoSuchPart, ValueLength, NotOneValue, IntegerTooLarge, ListTooLong, NoRoom}
 use Rattle.reply.specs.declared.Reply.{Reply}
 use Rattle.reply.specs.declared.Reply.the-variants.{Done, Refused}
 
@@ -17,6 +17,7 @@ refusalNumber TooLarge = too-large
 refusalNumber ShapeTooLong = shape-too-long
 refusalNumber NotOneTree = not-one-tree
 refusalNumber NotReconstructed = not-reconstructed
+refusalNumber NoUnit = no-unit
 refusalNumber FrameLength = frame-length
 refusalNumber StrayBit = stray-bit
 refusalNumber PathOdd = path-odd

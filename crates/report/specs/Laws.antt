@@ -147,6 +147,7 @@ number-small refusal.TooLarge = omega arith
 number-small refusal.ShapeTooLong = omega arith
 number-small refusal.NotOneTree = omega arith
 number-small refusal.NotReconstructed = omega arith
+number-small refusal.NoUnit = omega arith
 number-small refusal.FrameLength = omega arith
 number-small refusal.StrayBit = omega arith
 number-small refusal.PathOdd = omega arith

@@ -109,18 +109,24 @@ pub fn write_shape(ty: &[u8], value: &[u8], out: &mut [u8]) -> Result<usize, Ref
 }
 
 /// Reads a shape as a value of a type, and writes its value file, 36 bytes a record. The type need
-/// not lower: a Never is refused only where the shape reaches it. What lies under an empty tuple,
-/// an array of 0 or a variant without parts is passed over. At most 77,856,768 bytes.
+/// not lower: a Never is refused only where the shape reaches it. Where an empty tuple, an array of
+/// 0 or a variant without parts is read, only a unit may stand. For a type that lowers, what is
+/// accepted are the shapes that belong to it, those that [`write_shape`] writes. At most 77,856,768
+/// bytes.
 ///
 /// # Errors
 ///
-/// Numbers 1 to 5, 8, 9, 10 and 17.
+/// Numbers 1 to 5, 8, 9, 10, 20 and 17.
 ///
 /// ```
 /// // true, as an Option of a Boolean
 /// let mut value = [0; 72];
 /// assert_eq!(niegluk::reconstruct(&[4, 0, 0, 0, 1, 0, 0, 0], &[2, 2, 0], &mut value), Ok(72));
 /// assert_eq!((value[0], value[1], value[36], value[37]), (4, 1, 1, 1));
+///
+/// // a pair where the empty tuple should stand
+/// let pair = niegluk::reconstruct(&[5, 0, 0, 0], &[3, 0, 0], &mut value);
+/// assert_eq!(pair, Err(niegluk::Refusal::NoUnit));
 /// ```
 pub fn reconstruct(ty: &[u8], shape: &[u8], out: &mut [u8]) -> Result<usize, Refusal> {
     let mut length = 0;

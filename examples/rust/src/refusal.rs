@@ -28,6 +28,9 @@ pub enum Refusal {
     NotOneTree,
     /// 10: the shape does not read as a value of the type.
     NotReconstructed,
+    /// 20: something other than a unit stands where the shape is read as an empty tuple, an array
+    /// of 0 or a variant without parts.
+    NoUnit,
     /// 11: the frame has another length than the type's frames.
     FrameLength,
     /// 12: a padding or tail bit of the frame is 1.
@@ -72,6 +75,7 @@ impl Refusal {
             15 => Self::ValueLength,
             16 => Self::NotOneValue,
             17 => Self::NoRoom,
+            20 => Self::NoUnit,
             21 => Self::IntegerTooLarge,
             22 => Self::ListTooLong,
             other => Self::Unknown(other),
@@ -103,6 +107,7 @@ impl Refusal {
             Self::ValueLength => 15,
             Self::NotOneValue => 16,
             Self::NoRoom => 17,
+            Self::NoUnit => 20,
             Self::IntegerTooLarge => 21,
             Self::ListTooLong => 22,
             Self::Unknown(number) => number,
@@ -129,6 +134,10 @@ impl Display for Refusal {
             Self::ShapeTooLong => "The shape has over 65,536 records.",
             Self::NotOneTree => "The shape has a byte above 3, or is not exactly one tree.",
             Self::NotReconstructed => "The shape does not read as a value of the type.",
+            Self::NoUnit => {
+                "Something other than a unit stands where the shape is read as an empty tuple, an \
+                 array of 0 or a variant without parts."
+            }
             Self::FrameLength => "The frame has another length than the type's frames.",
             Self::StrayBit => "A padding or tail bit of the frame is 1.",
             Self::PathOdd => "The path's length is odd.",

@@ -5,7 +5,7 @@ use niegluk::Refusal;
 const README: &str = include_str!("../../../README.md");
 const HEADER: &str = include_str!("../../../include/niegluk.h");
 
-const ALL: [Refusal; 19] = [
+const ALL: [Refusal; 20] = [
     Refusal::TypeLength,
     Refusal::TypeTooLong,
     Refusal::BadRecord,
@@ -16,6 +16,7 @@ const ALL: [Refusal; 19] = [
     Refusal::ShapeTooLong,
     Refusal::NotOneTree,
     Refusal::NotReconstructed,
+    Refusal::NoUnit,
     Refusal::FrameLength,
     Refusal::StrayBit,
     Refusal::PathOdd,

@@ -29,6 +29,7 @@ use Rattle.model.specs.Laws.Bytes.{length-bits-of}
 use Rattle.model.specs.Laws.Frames.{from-bits-belongs}
 use Rattle.model.specs.Laws.Sizes.{length-type-records, shape-size}
 use Rattle.model.specs.Laws.ShapeFiles.{shape-read-written}
+use Rattle.model.specs.Laws.Spots.{surplus}
 use Rattle.types.specs.Trees.{tree, typeOf}
 use Rattle.types.specs.Lows.{low}
 use Rattle.types.specs.Steps.{Given}
@@ -136,8 +137,8 @@ module _ {s E W : List ℕ} (g : Given 32 false s E 0) (u : Wide s E W) where
 
     pub few-value : (v : Value (typeOf s)) → reconstruct (typeOf s) tree-of ≡ some v → length (encode (typeOf s) v) ≤ most-records
     few-value v e =
-        few-records s (shape-file tree-of) (length (encode (typeOf s) v)) few-shape
-        (value-records-reconstruct (typeOf s) (shape-file tree-of) tree-of (shape-read-written tree-of few-shape) ∙ ap (model.known (typeOf s)) e)
+        few-records s (shape-file tree-of) (length (encode (typeOf s) v)) (surplus (typeOf s) tree-of) few-shape
+        (value-records-reconstruct (typeOf s) (shape-file tree-of) tree-of (shape-read-written tree-of few-shape) ∙ ap (model.known (typeOf s) (surplus (typeOf s) tree-of)) e)
 
     -- so what was counted is exact
     counted : (k : ℕ) → Of k ≡ answer (seen 32 s 0 fr 0) → outcome (seen 32 s 0 fr 0) ≡ done k

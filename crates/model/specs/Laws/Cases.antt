@@ -15,11 +15,12 @@ use Rattle.model.specs.TypeFiles.{head, variant-parts, read-type, type-o
 use Rattle.model.specs.Lowering.{lower, has-never, over-large}
 use Rattle.model.specs.Values.{inject}
 use Rattle.model.specs.Reconstruct.{unfold-tree, combine, as-enum-leaf, reconstruct}
+use Rattle.model.specs.Spots.{in-list, walk}
 use Rattle.model.specs.ShapeFiles.{read-shape, shape-of}
 use Rattle.model.specs.ValueFiles.{encode, value-file, same, parse-at, value-of}
 use Rattle.model.specs.Frames.{after, bits, frame, frame-file, from-bits, padding, unframe}
 use Rattle.model.specs.Paths.{steps, span, among, element, in-variant, step, pick-child, follow, found}
-use Rattle.model.specs.Operations.{lowering, lowered, shaped, reconstructed, framed, unframed, part-read, edited, delivered}
+use Rattle.model.specs.Operations.{lowering, lowered, shaped, earlier-reading, reconstructed, framed, unframed, part-read, edited, delivered}
 
 -- HOW A CASE IS WRITTEN
 
@@ -105,13 +106,35 @@ u256 = hex 4 0x02000100
 abbrev nothing : List ℕ
 nothing = hex 4 0x05000000
 
+-- ((), ())
+abbrev two-nothings : List ℕ
+two-nothings = hex 12 0x05000002_05000000_05000000
+
+-- an Array of 0 Booleans
+abbrev no-booleans : List ℕ
+no-booleans = hex 8 0x06000000_01000000
+
+-- a List of () with bound 4
+abbrev list-4-nothing : List ℕ
+list-4-nothing = hex 8 0x07000004_05000000
+
+-- one variant, without parts and with the part ()
+abbrev one-variant : List ℕ
+one-variant = hex 8 0x08000001_09000000
+
+abbrev nothing-variant : List ℕ
+nothing-variant = hex 12 0x08000001_09000001_05000000
+
 -- k Options, one in the other, around what follows
 abbrev options : ℕ → List ℕ
 options k = times k (hex 4 0x04000000)
 
--- a Tuple of two, which follow
+-- a Tuple of two, and an Either of two, which follow
 abbrev two-of : List ℕ
 two-of = hex 4 0x05000002
+
+abbrev either-of : List ℕ
+either-of = hex 4 0x03000000
 
 abbrev option-bool : List ℕ
 option-bool = hex 8 0x04000000_01000000
@@ -271,6 +294,7 @@ rows =
     ∷ refuses (reconstructed nothing long-tree) 8
     ∷ refuses (reconstructed nothing []) 9
     ∷ refuses (reconstructed boolean (digits 1 0)) 10
+    ∷ refuses (reconstructed nothing (digits 2 10)) 20
     ∷ refuses (unframed after boolean []) 11
     ∷ refuses (unframed after boolean (hex 1 0x40)) 12
     ∷ refuses (part-read after nothing [] (hex 1 0)) 13
@@ -283,7 +307,7 @@ rows =
     ∷ refuses (framed after list-2 (list-of 2)) 22
     ∷ []
 
--- TWO ROWS AT ONCE; the comments name them. Left out is what cannot be: rows 9 and 10 (10 needs a tree), rows 10 and 12 with 1 to 5, 21 and 22 with 2 to 4 (they need a type),
+-- TWO ROWS AT ONCE; the comments name them. Left out is what cannot be: rows 9 and 10 (10 needs a tree), rows 10, 12, 20, 21 and 22 with 2 to 4 (they need a type),
 -- and rows of files that no operation takes together.
 -- In one type file
 
@@ -353,16 +377,28 @@ file-pairs =
     ∷ refuses (reconstructed large-type (digits 1 0)) 10
     ∷ gives (reconstructed (two-of ++ boolean ++ options 1 ++ never) (digits 5 32010)) (tuple-of 2 ++ bool-is 1 ++ none-is)
     ∷ gives (reconstructed (two-of ++ boolean ++ options 1 ++ large-type) (digits 5 32010)) (tuple-of 2 ++ bool-is 1 ++ none-is)
-    -- 1 and 10, 1 and 12; 5 and 10, 5 and 12: behind the Boolean in front
+    -- 1 and 10, 1 and 12, 1 and 20; 5 and 10, 5 and 12, 5 and 20: behind the type in front
     ∷ refuses (reconstructed (boolean ++ 0 ∷ []) (digits 1 0)) 1
     ∷ refuses (unframed after (boolean ++ 0 ∷ []) (hex 1 0x40)) 1
+    ∷ refuses (reconstructed (nothing ++ 0 ∷ []) (digits 2 10)) 1
     ∷ refuses (reconstructed (boolean ++ boolean) (digits 1 0)) 5
     ∷ refuses (unframed after (boolean ++ boolean) (hex 1 0x40)) 5
+    ∷ refuses (reconstructed (nothing ++ nothing) (digits 2 10)) 5
     -- 7 and 12: none, behind it 16,640 bits of padding and 7 of the tail
     ∷ refuses (unframed after (options 1 ++ large-type) (replicate 2081 127)) 7
     -- 8 and 9; 8 and 10
     ∷ refuses (reconstructed nothing long-shape) 8
     ∷ refuses (reconstructed boolean long-tree) 8
+    -- 8 and 20; 9 and 20: a second tree, a byte above 3, a tree cut short
+    ∷ refuses (reconstructed no-booleans long-tree) 8
+    ∷ refuses (reconstructed nothing (digits 3 100)) 9
+    ∷ refuses (reconstructed nothing (digits 2 14)) 9
+    ∷ refuses (reconstructed nothing (digits 3 310)) 9
+    -- 10 and 20: the one or the other first in the shape
+    ∷ refuses (reconstructed (two-of ++ nothing ++ boolean) (digits 4 3100)) 10
+    ∷ refuses (reconstructed (two-of ++ boolean ++ nothing) (digits 4 3010)) 10
+    ∷ refuses (reconstructed (two-of ++ nothing ++ never) (digits 4 3100)) 10
+    ∷ refuses (reconstructed (two-of ++ never ++ nothing) (digits 4 3010)) 10
     -- 11 and 12: a byte too long, and its padding is 1
     ∷ refuses (unframed after boolean (hex 2 0x4000)) 11
     -- 11 and 13; 11 and 14; 11 and 15; 11 and 16
@@ -445,6 +481,7 @@ file-pairs =
     ∷ refuses-first (reconstructed nothing long-tree) 8
     ∷ refuses-first (reconstructed nothing []) 9
     ∷ refuses-first (reconstructed boolean (digits 1 0)) 10
+    ∷ refuses-first (reconstructed nothing (digits 2 10)) 20
     ∷ refuses-first (unframed after boolean []) 11
     ∷ refuses-first (unframed after boolean (hex 1 0x40)) 12
     ∷ refuses-first (part-read after boolean (hex 1 0) (hex 1 0)) 13
@@ -549,6 +586,56 @@ type-edges =
     ∷ gives (lowered u4-and-list) (digits 31 2221001002100100210210010010100)
     ∷ []
 
+-- Where a unit belongs
+unit-edges : List Case
+unit-edges =
+    -- 20: a pair, a left or a right for an empty tuple, an array of 0, a variant without parts, a payload of one empty tuple; a unit is read
+    refuses (reconstructed nothing (digits 3 300)) 20
+    ∷ refuses (reconstructed nothing (digits 2 20)) 20
+    ∷ gives (reconstructed nothing (digits 1 0)) (tuple-of 0)
+    ∷ refuses (reconstructed no-booleans (digits 3 300)) 20
+    ∷ refuses (reconstructed no-booleans (digits 2 10)) 20
+    ∷ gives (reconstructed no-booleans (digits 1 0)) (array-of 0)
+    ∷ refuses (reconstructed variants (digits 4 1300)) 20
+    ∷ gives (reconstructed variants (digits 2 10)) (variant 0)
+    ∷ refuses (reconstructed five-variants (digits 5 22210)) 20
+    ∷ gives (reconstructed five-variants (digits 4 2220)) (variant 4)
+    ∷ refuses (reconstructed one-variant (digits 3 300)) 20
+    ∷ gives (reconstructed one-variant (digits 1 0)) (variant 0)
+    ∷ refuses (reconstructed nothing-variant (digits 2 10)) 20
+    ∷ gives (reconstructed nothing-variant (digits 1 0)) (variant 0 ++ tuple-of 0)
+    -- under a some, on either side, in a tuple of one, in an array
+    ∷ refuses (reconstructed (options 1 ++ nothing) (digits 3 210)) 20
+    ∷ gives (reconstructed (options 1 ++ nothing) (digits 2 20)) (some-of ++ tuple-of 0)
+    ∷ refuses (reconstructed (either-of ++ nothing ++ boolean) (digits 3 120)) 20
+    ∷ refuses (reconstructed (either-of ++ boolean ++ nothing) (digits 3 210)) 20
+    ∷ gives (reconstructed (either-of ++ boolean ++ nothing) (digits 2 20)) (right-of ++ tuple-of 0)
+    ∷ refuses (reconstructed (hex 4 0x05000001 ++ nothing) (digits 2 10)) 20
+    ∷ gives (reconstructed (hex 4 0x05000001 ++ nothing) (digits 1 0)) (tuple-of 1 ++ tuple-of 0)
+    ∷ refuses (reconstructed (hex 4 0x06000002 ++ nothing) (digits 4 3020)) 20
+    ∷ gives (reconstructed (hex 4 0x06000002 ++ nothing) (digits 3 300)) (array-of 2 ++ tuple-of 0 ++ tuple-of 0)
+    -- in the first block of a list, at its first element and its second; in the last block
+    ∷ refuses (reconstructed list-4-nothing (digits 8 32310010)) 20
+    ∷ refuses (reconstructed list-4-nothing (digits 8 32302010)) 20
+    ∷ refuses (reconstructed list-4-nothing (digits 6 310210)) 20
+    ∷ gives (reconstructed list-4-nothing (digits 7 3230010)) (list-of 2 ++ tuple-of 0 ++ tuple-of 0)
+    -- two spots: at the first, the second, both; and a Never or a large type that is not reached
+    ∷ refuses (reconstructed two-nothings (digits 4 3100)) 20
+    ∷ refuses (reconstructed two-nothings (digits 5 30300)) 20
+    ∷ refuses (reconstructed two-nothings (digits 5 31010)) 20
+    ∷ gives (reconstructed two-nothings (digits 3 300)) (tuple-of 2 ++ tuple-of 0 ++ tuple-of 0)
+    ∷ refuses (reconstructed (two-of ++ nothing ++ options 1 ++ never) (digits 5 31010)) 20
+    ∷ refuses (reconstructed (two-of ++ nothing ++ options 1 ++ large-type) (digits 5 31010)) 20
+    -- a side that the shape does not take holds no spot; under a none, a bit or an empty block it is 10
+    ∷ gives (reconstructed (options 1 ++ nothing) (digits 2 10)) none-is
+    ∷ gives (reconstructed (either-of ++ nothing ++ boolean) (digits 3 220)) (right-of ++ bool-is 1)
+    ∷ gives (reconstructed list-4-nothing (digits 5 31010)) (list-of 0)
+    ∷ refuses (reconstructed (options 1 ++ nothing) (digits 3 110)) 10
+    ∷ refuses (reconstructed option-bool (digits 4 1300)) 10
+    ∷ refuses (reconstructed boolean (digits 3 110)) 10
+    ∷ refuses (reconstructed list-4-nothing (digits 6 311010)) 10
+    ∷ []
+
 -- Shapes and values
 shape-edges : List Case
 shape-edges =
@@ -557,11 +644,6 @@ shape-edges =
     ∷ gives (reconstructed list-4 (digits 6 310220)) (list-of 1 ++ u1-is 1)
     ∷ gives (reconstructed list-4 (digits 10 3232010220)) (list-of 3 ++ u1-is 1 ++ u1-is 0 ++ u1-is 1)
     ∷ gives (reconstructed variants (digits 7 2232010)) (variant 2 ++ u1-is 1 ++ bool-is 0)
-    -- nothing is looked at under an empty tuple, an array of 0, a variant without parts; under a none it must be unit
-    ∷ gives (reconstructed nothing (digits 3 300)) (tuple-of 0)
-    ∷ gives (reconstructed (hex 8 0x06000000_01000000) (digits 3 300)) (array-of 0)
-    ∷ gives (reconstructed variants (digits 4 1300)) (variant 0)
-    ∷ refuses (reconstructed option-bool (digits 4 1300)) 10
     -- 9: a byte above 3; a tree cut short; a second tree
     ∷ refuses (reconstructed nothing (digits 1 4)) 9
     ∷ refuses (reconstructed nothing (digits 2 30)) 9
@@ -704,7 +786,7 @@ edit-edges =
     ∷ []
 
 edges : List Case
-edges = type-edges ++ shape-edges ++ frame-edges ++ read-edges ++ edit-edges
+edges = type-edges ++ unit-edges ++ shape-edges ++ frame-edges ++ read-edges ++ edit-edges
 
 -- THE TABLE
 
@@ -713,5 +795,5 @@ table = starred ++ rows ++ pairs ++ traps ++ edges
 
 -- every case of the table holds: the checker computes it from the definitions
 pub computed : all-hold table ≡ true
-unfolding digits-in times same-list holds all-hold starred rows type-pairs behind behind-all file-pairs pairs traps type-edges shape-edges frame-edges read-edges edit-edges edges table to-bits of-bits byte-bits bits-of pack fill number in-bytes next next-power-of-two btree-split-index grow btree fold type-records shape-records enum-injection partition-type partition head variant-parts read-type type-of lower has-never over-large inject unfold-tree combine as-enum-leaf reconstruct read-shape shape-of encode value-file same parse-at value-of bits frame frame-file from-bits padding unframe steps span among element in-variant step pick-child follow found lowering lowered shaped reconstructed framed unframed part-read edited delivered
+unfolding digits-in times same-list holds all-hold starred rows type-pairs behind behind-all file-pairs pairs traps type-edges unit-edges shape-edges frame-edges read-edges edit-edges edges table to-bits of-bits byte-bits bits-of pack fill number in-bytes next next-power-of-two btree-split-index grow btree fold type-records shape-records enum-injection partition-type partition head variant-parts read-type type-of lower has-never over-large inject unfold-tree combine as-enum-leaf reconstruct in-list walk read-shape shape-of encode value-file same parse-at value-of bits frame frame-file from-bits padding unframe steps span among element in-variant step pick-child follow found lowering lowered shaped earlier-reading reconstructed framed unframed part-read edited delivered
 computed = refl

@@ -10,7 +10,7 @@ use native.Mathlib.Omega.{arith}
 use lib.ListN.{length, take, drop, drop-of-length-le}
 use lib.Seq.{take-at}
 use borrow.Author.Tests.{le-ltb}
-use Rattle.model.specs.Numbers.{stray-bit, frame-length, not-reconstructed, no-such-part, most-type-records, most-shape-records, deepest}
+use Rattle.model.specs.Numbers.{stray-bit, frame-length, no-unit, no-such-part, most-type-records, most-shape-records, deepest}
 use Rattle.model.specs.Outcome.{Outcome, done, refused, _>>=_, _>>_, or-refuse}
 use Rattle.model.specs.Options.{any}
 use Rattle.model.specs.Bytes.{Bytes, bits-of, bytes-for}
@@ -19,16 +19,16 @@ use Rattle.model.specs.Types.{Ty}
 use Rattle.model.specs.TypeFiles.{type-of, type-file}
 use Rattle.model.specs.Lowering.{lower}
 use Rattle.model.specs.Values.{Value, Valid, inject}
-use Rattle.model.specs.Reconstruct.{reconstruct}
+use Rattle.model.specs.Spots.{lacks-unit}
 use Rattle.model.specs.ShapeFiles.{shape-of, shape-file}
 use Rattle.model.specs.ValueFiles.{value-of, value-file, encode}
 use Rattle.model.specs.Frames.{Place, width, frame-bytes, stray-bits, frame as frame-bits, frame-file, unframe}
 use Rattle.model.specs.Paths.{Found, found, steps, part-records, replaced}
 use Rattle.model.specs.Parts.{Part, part}
-use Rattle.model.specs.Operations.{lowering, lowered, shaped, reconstructed, framed, unframed, part-read, edited, delivered}
+use Rattle.model.specs.Operations.{lowering, lowered, shaped, earlier-reading, reconstructed, framed, unframed, part-read, edited, delivered}
 use Rattle.model.specs.Conditions.{ShapeBelongs, TypeLowers, FrameAccepted, PathLeads, HasType, Begins}
 use Rattle.model.specs.Edits.{MayEdit, Replaced}
-use Rattle.model.specs.Laws.Outcome.{refused-done, done-injective, outcome-step, or-refuse-done}
+use Rattle.model.specs.Laws.Outcome.{refused-done, done-injective, outcome-step, refuse-step, or-refuse-done}
 use Rattle.model.specs.Laws.Bytes.{length-bits-of}
 use Rattle.model.specs.Laws.TypeFiles.{Allowed, depth, type-read-written, type-written-read}
 use Rattle.model.specs.Laws.TypeBytes.{type-file-bytes}
@@ -41,7 +41,7 @@ use Rattle.model.specs.Laws.Sizes.{length-type-records, width-nodes, sha
 use Rattle.model.specs.Laws.Parts.{part-there}
 use Rattle.model.specs.Laws.FileParts.{Stands, Leads}
 use Rattle.model.specs.Laws.Lowering.{Known, known}
-use Rattle.model.specs.Laws.Operations.{shape-fits, there, replaced-file, part-file, found-leads, part-allowed, stretch-inside, stretch-bits, edited-bits, outside, shaped-is, reconstructed-is, shaped-read, framed-is, unframed-is, Old, unframed-read, framed-read}
+use Rattle.model.specs.Laws.Operations.{reading-is, shape-fits, there, replaced-file, part-file, found-leads, part-allowed, stretch-inside, stretch-bits, edited-bits, outside, shaped-is, reconstructed-is, shaped-read, framed-is, unframed-is, Old, unframed-read, framed-read}
 
 -- 1. THE TWO LAWS OF EACH KIND OF FILE: what is written is read as itself; what is read is exactly what the writer makes
 
@@ -184,14 +184,14 @@ module _ (ty : List ℕ) (b : Bytes ty) where
   pub belonging-shape-reads : (shape : List ℕ) → ShapeBelongs ty shape → OneValue (reconstructed ty) (shaped ty) shape
   belonging-shape-reads shape s = one-shape ty (s .type) (s .lowers) (known ty (s .type) b (s .lowers)) shape (s .tree) (s .says) (s .belongs)
 
-  -- whatever shape `reconstruct` accepts, belonging or not, it gives a value of the type
+  -- whatever shape `reconstruct` accepts, be it of a type that lowers or not, it gives a value of the type
   pub reconstructed-has-type : (shape val : List ℕ) → reconstructed ty shape ≡ done val → (t : Ty) × (v : Value t) × (type-of ty ≡ done t) × (value-of t val ≡ done v)
   unfolding reconstructed
   reconstructed-has-type shape val h =
-      let (t, e, f) = outcome-step (type-of ty) _ val h in
-      let (s, g, k) = outcome-step (shape-of shape) _ val f in
-      let (v, m, n) = outcome-step (or-refuse not-reconstructed (reconstruct t s)) (λ v. done (value-file t v)) val k in
-      (t, v, e, ap (value-of t) (sym (done-injective (value-file t v) val n)) ∙ value-read-written t v (type-written-read ty t b e .allowed) (reconstruct-valid t s v (or-refuse-done not-reconstructed (reconstruct t s) v m)))
+      let (r, e, f) = outcome-step (earlier-reading ty shape) _ val h in
+      let (c, n) = refuse-step no-unit (lacks-unit (r .type) (r .tree)) (done (value-file (r .type) (r .value))) val f in
+      let k = reading-is ty shape r e in
+      (r .type, r .value, k .says, ap (value-of (r .type)) (sym (done-injective (value-file (r .type) (r .value)) val n)) ∙ value-read-written (r .type) (r .value) (type-written-read ty (r .type) b (k .says) .allowed) (reconstruct-valid (r .type) (r .tree) (r .value) (k .gives)))
 
   module _ (p : Place) where
     -- every value of a type that lowers has a frame, which is accepted for the type

@@ -8,7 +8,7 @@ use Prim.Native.Nat.{ℕ, zero, suc, _*_, _%_, _≤_}
 use native.Mathlib.Omega.{arith}
 use lib.Dec.{eqb, ltb}
 use lib.ListN.{length, take}
-use Rattle.model.specs.Numbers.{type-length, type-too-long, bad-record, too-deep, not-one-type, never-stands, too-large, shape-too-long, not-one-tree, not-reconstructed, frame-length, stray-bit, path-odd, no-such-part, value-length, not-one-value, integer-too-large, list-too-long, most-type-records, deepest, most-shape-records}
+use Rattle.model.specs.Numbers.{type-length, type-too-long, bad-record, too-deep, not-one-type, never-stands, too-large, shape-too-long, not-one-tree, not-reconstructed, no-unit, frame-length, stray-bit, path-odd, no-such-part, value-length, not-one-value, integer-too-large, list-too-long, most-type-records, deepest, most-shape-records}
 use Rattle.model.specs.Outcome.{Outcome, done, refused, _>>=_, _>>_, refuse, or-refuse, all-read}
 use Rattle.model.specs.Options.{any, one-of, All}
 use Rattle.model.specs.Bytes.{records, bits-of}
@@ -16,6 +16,7 @@ use Rattle.model.specs.Types.{Ty, Tys}
 use Rattle.model.specs.TypeFiles.{TRec, type-record, Head, is-never, is-bool, is-either, is-option, is-uint, is-tuple, is-array, is-list, is-enum, head, variant-parts, Reader, on-record, read-types, read-variants, read-children, read-type, read-variant, type-of}
 use Rattle.model.specs.Lowering.{lower, has-never, over-large}
 use Rattle.model.specs.Reconstruct.{reconstruct}
+use Rattle.model.specs.Spots.{lacks-unit}
 use Rattle.model.specs.ShapeFiles.{read-shape, shape-of}
 use Rattle.model.specs.ValueFiles.{Rec, value-record, value-of}
 use Rattle.model.specs.Faults.{fault, children, verdict}
@@ -23,7 +24,7 @@ use Rattle.model.specs.Frames.{Place, width, frame-bytes, from-bits, str
 use Rattle.model.specs.Paths.{steps, found}
 use Rattle.model.specs.Laws.Options.{one-of-all}
 use Rattle.model.specs.Laws.Faults.{Tells, fault-tells, value-verdict}
-use Rattle.model.specs.Operations.{lowering, lowered, shaped, reconstructed, framed, unframed, part-read, edited}
+use Rattle.model.specs.Operations.{lowering, lowered, shaped, earlier-reading, earlier-reconstructed, reconstructed, framed, unframed, part-read, edited}
 
 -- THE ROWS OF EACH PLACE
 
@@ -35,6 +36,10 @@ lowering-rows = never-stands ∷ too-large ∷ []
 
 abbrev pub shape-rows : List ℕ
 shape-rows = shape-too-long ∷ not-one-tree ∷ not-reconstructed ∷ []
+
+-- the row that today's reading of a shape has beside those of the earlier one
+abbrev pub unit-rows : List ℕ
+unit-rows = no-unit ∷ []
 
 abbrev pub frame-rows : List ℕ
 frame-rows = frame-length ∷ stray-bit ∷ []
@@ -213,12 +218,20 @@ pub shaped-row : (ty val : List ℕ) → Within (lowering-all ++ value-rows) (sh
 unfolding shaped
 shaped-row ty val = step (lowering ty) _ (among refl (lowering-row ty)) (λ t. step (value-of t val) _ (among refl (value-row t val)) (λ v. finished _))
 
-pub reconstructed-row : (ty shape : List ℕ) → Within (type-rows ++ shape-rows) (reconstructed ty shape)
-unfolding reconstructed
-reconstructed-row ty shape =
+reading-row : (ty shape : List ℕ) → Within (type-rows ++ shape-rows) (earlier-reading ty shape)
+unfolding earlier-reading
+reading-row ty shape =
     step (type-of ty) _ (among refl (type-row ty))
     (λ t. step (shape-of shape) _ (among refl (shape-row shape))
     (λ s. step (or-refuse not-reconstructed (reconstruct t s)) _ (there not-reconstructed (reconstruct t s) refl) (λ v. finished _)))
+
+pub earlier-row : (ty shape : List ℕ) → Within (type-rows ++ shape-rows) (earlier-reconstructed ty shape)
+unfolding earlier-reconstructed
+earlier-row ty shape = step (earlier-reading ty shape) _ (reading-row ty shape) (λ r. finished _)
+
+pub reconstructed-row : (ty shape : List ℕ) → Within (type-rows ++ shape-rows ++ unit-rows) (reconstructed ty shape)
+unfolding reconstructed
+reconstructed-row ty shape = step (earlier-reading ty shape) _ (among refl (reading-row ty shape)) (λ r. row no-unit (lacks-unit (r .type) (r .tree)) _ refl (finished _))
 
 module _ (p : Place) where
   pub framed-row : (ty val : List ℕ) → Within (lowering-all ++ value-rows) (framed p ty val)

@@ -1,5 +1,5 @@
 -- The operations on files that are written for values of a type that lowers, and back: what every theorem of `Demands` rests on.
-use mathlib.Core.Path.{_≡_, refl, sym, ap, ap₂, _∙_}
+use mathlib.Core.Path.{_≡_, refl, sym, ap, ap₂, subst, _∙_}
 use mathlib.Core.Logic.{inl, inr}
 use mathlib.Core.List.{List, [], _∷_, _++_, append-assoc, append-nil}
 use mathlib.Core.Bool.{Bool, false}
@@ -9,25 +9,28 @@ use native.Mathlib.Omega.{arith}
 use native.Mathlib.Nat.{add-sub-of-le}
 use lib.ListN.{length, take, drop, set, getD, getElem?, length-append, length-take, List·getD-append}
 use lib.Seq.{take-at, drop-at, take-append-le, drop-append-le, getD-take, getD-drop, getD-append-add}
-use Rattle.model.specs.Numbers.{most-shape-records}
-use Rattle.model.specs.Outcome.{done}
+use Rattle.model.specs.Numbers.{not-reconstructed, most-shape-records}
+use Rattle.model.specs.Outcome.{done, or-refuse}
 use Rattle.model.specs.Options.{mapO, bindO, flatMap}
 use Rattle.model.specs.Bytes.{Bytes, bits-of, bytes-for, zeros}
 use Rattle.model.specs.Balanced.{btree}
 use Rattle.model.specs.Types.{Ty, Tys, Variants, never, bool, uint, either, option, tuple, array, list, enum, nil, cons, last, more, count}
+use Rattle.model.specs.TypeFiles.{type-of}
 use Rattle.model.specs.Lowering.{lower, payloads}
 use Rattle.model.specs.Values.{Value, Values, Choice, Valid, index, inject}
-use Rattle.model.specs.ShapeFiles.{shape-file}
+use Rattle.model.specs.Reconstruct.{reconstruct}
+use Rattle.model.specs.ShapeFiles.{shape-of, shape-file}
 use Rattle.model.specs.ValueFiles.{encode, value-bytes, value-file, value-of}
 use Rattle.model.specs.Frames.{Place, width, frame, frame-file, unframe}
 use Rattle.model.specs.Paths.{Found, found, part-records, replaced}
 use Rattle.model.specs.Parts.{Part, within, element-of, ahead-of-payload, part-of, choice-part, child, part, offset, extent}
-use Rattle.model.specs.Operations.{lowering, shaped, reconstructed, framed, unframed}
-use Rattle.model.specs.Laws.Outcome.{outcome-step, done-injective}
+use Rattle.model.specs.Operations.{lowering, shaped, Reading, earlier-reading, reconstructed, framed, unframed}
+use Rattle.model.specs.Laws.Outcome.{outcome-step, done-injective, or-refuse-done}
 use Rattle.model.specs.Laws.Records.{take-written, drop-written, flatMap-append}
 use Rattle.model.specs.Laws.TypeFiles.{Allowed, AllowedAll, AllowedVariants}
 use Rattle.model.specs.Laws.ValueFiles.{length-value-bytes, records-value-file, value-read-written, value-written-read}
 use Rattle.model.specs.Laws.Shapes.{inject-belongs, reconstruct-inject}
+use Rattle.model.specs.Laws.Spots.{written-clean}
 use Rattle.model.specs.Laws.ShapeFiles.{shape-read-written}
 use Rattle.model.specs.Laws.Sizes.{length-type-records, shape-size}
 use Rattle.model.specs.Laws.FrameFiles.{length-frame, bits-frame-file, frame-read-written, frame-written-read}
@@ -178,6 +181,22 @@ outside old new inner o n i h m e = (front, back)
         let j : i ≡ length (take o old ++ inner) + (i - (o + n)) = omega arith in
         ap₂ (λ l a. getD l a false) e j ∙ getD-append-add (take o old ++ inner) (drop (o + n) old) (i - (o + n)) false ∙ getD-drop (o + n) old (i - (o + n)) false ∙ ap (λ a. getD old a false) (add-sub-of-le k)
 
+-- THE EARLIER READING OF A SHAPE
+
+-- where it gives a value, the files say the type and the tree, and the Rust reads the value of them
+pub record Reads (ty shape : List ℕ) (r : Reading) : Type 0 where
+  pub says : type-of ty ≡ done (r .type)
+  pub stands : shape-of shape ≡ done (r .tree)
+  pub gives : reconstruct (r .type) (r .tree) ≡ some (r .value)
+
+pub reading-is : (ty shape : List ℕ) (r : Reading) → earlier-reading ty shape ≡ done r → Reads ty shape r
+unfolding earlier-reading
+reading-is ty shape r h =
+    let (t, e, f) = outcome-step (type-of ty) _ r h in
+    let (s, g, k) = outcome-step (shape-of shape) _ r f in
+    let (v, m, n) = outcome-step (or-refuse not-reconstructed (reconstruct t s)) _ r k in
+    subst (Reads ty shape) (done-injective (record { type = t; tree = s; value = v }) r n) (record { says = e; stands = g; gives = or-refuse-done not-reconstructed (reconstruct t s) v m })
+
 -- OPERATIONS ON WRITTEN FILES
 
 module _ (ty : List ℕ) (t : Ty) (k : lowering ty ≡ done t) (q : Known ty t) where
@@ -190,8 +209,8 @@ module _ (ty : List ℕ) (t : Ty) (k : lowering ty ≡ done t) (q : Known ty t) 
   shaped-is v h = rw (k, value-read-written t v (q .file .allowed) h)
 
   pub reconstructed-is : (v : Value t) → Valid t v → reconstructed ty (shape-file (inject t v)) ≡ done (value-file t v)
-  unfolding reconstructed
-  reconstructed-is v h = rw (q .says, shape-read-written (inject t v) (shape-fits v h), reconstruct-inject t v h)
+  unfolding reconstructed earlier-reading
+  reconstructed-is v h = rw (q .says, shape-read-written (inject t v) (shape-fits v h), reconstruct-inject t v h, written-clean t v h)
 
   -- a value that is written, and its shape
   pub record Shaped (val shape : List ℕ) : Type 0 where

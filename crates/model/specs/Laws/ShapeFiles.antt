@@ -15,6 +15,14 @@ use Rattle.model.specs.ShapeFiles.{read-shape, shape-of, shape-file}
 use Rattle.model.specs.Laws.Options.{bindO-some, mapO-some}
 use Rattle.model.specs.Laws.Outcome.{outcome-step, refuse-step, or-refuse-done, all-read-done}
 
+-- a tree has a record
+pub shape-some : (s : SValue) → 1 ≤ length (shape-records s)
+unfolding shape-records
+shape-some unit = omega arith
+shape-some (left s) = omega arith
+shape-some (right s) = omega arith
+shape-some (pair s t) = omega arith
+
 -- a written tree is read from the front, and the rest is handed back
 pub read-shape-records : (fuel : ℕ) (s : SValue) (rest : List ℕ) → length (shape-records s) ≤ fuel → read-shape fuel (shape-records s ++ rest) ≡ some (s, rest)
 unfolding read-shape shape-records

@@ -9,13 +9,14 @@ use Prim.Native.Nat.{ℕ, _+_, _*_, _^_, _<_}
 use native.Mathlib.Omega.{arith}
 use borrow.Author.Needs.{needs}
 use lib.ListN.{length}
-use Rattle.rebuild.specs.Laws.Steps.{left-fits, right-fits, pair-fits}
+use Rattle.rebuild.specs.Laws.Steps.{left-fits, right-fits, pair-fits, few-one, few-none}
 use Rattle.model.specs.Laws.Balanced.{shares-else}
 use Rattle.structural.specs.Laws.Bounds.{bound-small}
 use Rattle.structural.specs.Laws.Forms.{level-some, next-fits}
-use Rattle.rebuild.specs.Laws.Forms.{given-hopped}
+use Rattle.rebuild.specs.Reads.{reader}
+use Rattle.rebuild.specs.Laws.Forms.{given-hopped, as-product, as-sum, as-list, as-payload, copies-given, types-given, one-given, left-given, right-given}
 use Rattle.rebuild.specs.declared.Parts.the-variants.{Types}
-use Rattle.rebuild.proofs.Steps.{limits-down, as-product, as-sum, as-list, as-payload, record-refused, record-product, record-sum, record-list, record-payload, product-few, sum-few, list-few, left-few, block-few, copies-given, types-given, part-bit, part-copy, part-type, one-given, left-given, right-given, product-none, product-one, product-no, product-stop, product-on, chosen-first, chosen-left, chosen-right, chosen-no, block-left, block-right, block-no, listed-two, halved, listed-no, listed-stop, listed-on}
+use Rattle.rebuild.proofs.Steps.{limits-down, record-refused, record-product, record-sum, record-list, record-payload, product-few, sum-few, list-few, left-few, left-over, block-small, block-few, block-over, part-bit, part-copy, part-type, product-none, product-one, product-no, product-stop, product-on, chosen-first, chosen-left, chosen-right, chosen-no, block-left, block-right, block-no, listed-two, halved, listed-no, listed-stop, listed-on}
 use borrow.Fn.Kinds.{In}
 use borrow.Fn.PlainCycle.{Measures, is, falls, and}
 use Rattle.rebuild.proofs.read_block.Reads as read-block
@@ -63,7 +64,7 @@ abbrev μ-read-record : Measures 3 read-record-kinds.ps ℕ
 abbrev μ-read-sum : Measures 3 read-sum-kinds.ps ℕ
 μ-read-sum κs a = a .1 .1 .1 .0 * 2 ^ 17 + a .1 .1 .1 .1 .0 + 1
 
-ruleset steps = (limits-down, level-some, next-fits, left-fits, right-fits, pair-fits, record-refused, record-product, record-sum, record-list, record-payload, product-few, sum-few, list-few, left-few, block-few, copies-given, types-given, part-bit, part-copy, part-type, one-given, product-none, product-one, product-no, product-stop, product-on, chosen-first, chosen-left, chosen-right, chosen-no, block-left, block-right, block-no, listed-two, listed-no, listed-stop, listed-on, needs)
+ruleset steps = (limits-down, few-one, few-none, level-some, next-fits, left-fits, right-fits, pair-fits, record-refused, record-product, record-sum, record-list, record-payload, product-few, sum-few, list-few, left-few, left-over, block-small, block-few, block-over, copies-given, types-given, part-bit, part-copy, part-type, one-given, product-none, product-one, product-no, product-stop, product-on, chosen-first, chosen-left, chosen-right, chosen-no, block-left, block-right, block-no, listed-two, listed-no, listed-stop, listed-on, needs)
 
 module _ (t : ℕ) where
   abbrev read-block-at : In 3 read-block-kinds.ps
@@ -100,7 +101,7 @@ module _ (t : ℕ) where
   read-block-calls = (record-at-reads.Asked, record-at-reads.Learnt, read-unit-reads.Asked, read-unit-reads.Learnt, read-product-below, read-product.Post)
 
   abbrev read-list-calls : read-list-lts.Claims
-  read-list-calls = (checked-div2-reads.Asked, checked-div2-reads.Learnt, read-block-below, read-block.Post, record-at-reads.Asked, record-at-reads.Learnt, get-reads.Asked, get-reads.Learnt, read-list-below, read-list.Post, plus-reads.Asked, plus-reads.Learnt)
+  read-list-calls = (checked-div2-reads.Asked, checked-div2-reads.Learnt, read-block-below, read-block.Post, plus-reads.Asked, plus-reads.Learnt, record-at-reads.Asked, record-at-reads.Learnt, get-reads.Asked, get-reads.Learnt, read-list-below, read-list.Post)
 
   abbrev read-product-calls : read-product-lts.Claims
   read-product-calls = (read-any-reads.Asked, read-any-reads.Learnt, read-bit-reads.Asked, read-bit-reads.Learnt, read-record-below, read-record.Post, record-at-reads.Asked, record-at-reads.Learnt, btree-split-index-reads.Asked, btree-split-index-reads.Learnt, read-product-below, read-product.Post, after-reads.Asked, after-reads.Learnt, plus-reads.Asked, plus-reads.Learnt)
@@ -157,7 +158,7 @@ module _ (t : ℕ) where
   read-record-read-product-requires : read-record-lts.Need-read-product-requires read-record-calls read-record-at read-record.Post
   read-record-read-product-requires c κs =
       let g = c .before .before .before .before .before .before .before .before .pre in
-      let i = as-product (c .before .before .before .before .before .before .before .before .pre .1 .0) (c .before .before .before .before .before .before .before .before .args .shape .now) _ _ (c .before .before .before .before .head-at .ensures .0) (c .before .before .before .before .head-at .ensures .1) (c .before .before .before .form-of .ensures) _ _ (c .before .parts .given .1) in
+      let i = as-product (c .before .before .before .before .before .before .before .before .pre .1 .0) (reader (c .before .before .before .before .before .before .before .before .args .shape .now)) _ _ (c .before .before .before .before .head-at .ensures .0) (c .before .before .before .before .head-at .ensures .1) (c .before .before .before .form-of .ensures) _ _ (c .before .parts .given .1) in
       let f = i .few in
       let l = level-some (g .1 .0) in
       (omega arith, (f, (i .given, limits-down (g .1 .1))))
@@ -165,7 +166,7 @@ module _ (t : ℕ) where
   read-record-read-sum-requires : read-record-lts.Need-read-sum-requires read-record-calls read-record-at read-record.Post
   read-record-read-sum-requires c κs =
       let g = c .before .before .before .before .before .before .before .before .pre in
-      let i = as-sum (c .before .before .before .before .before .before .before .before .pre .1 .0) (c .before .before .before .before .before .before .before .before .args .shape .now) _ _ (c .before .before .before .before .head-at .ensures .0) (c .before .before .before .before .head-at .ensures .1) (c .before .before .before .form-of .ensures) _ (c .before .n .given .1) in
+      let i = as-sum (c .before .before .before .before .before .before .before .before .pre .1 .0) (reader (c .before .before .before .before .before .before .before .before .args .shape .now)) _ _ (c .before .before .before .before .head-at .ensures .0) (c .before .before .before .before .head-at .ensures .1) (c .before .before .before .form-of .ensures) _ (c .before .n .given .1) in
       let f = i .few in
       let l = level-some (g .1 .0) in
       (omega arith, ((i .some, f), (i .given, limits-down (g .1 .1))))
@@ -173,7 +174,7 @@ module _ (t : ℕ) where
   read-record-read-list-requires : read-record-lts.Need-read-list-requires read-record-calls read-record-at read-record.Post
   read-record-read-list-requires c κs =
       let g = c .before .before .before .before .before .before .before .before .pre in
-      let i = as-list (c .before .before .before .before .before .before .before .before .pre .1 .0) (c .before .before .before .before .before .before .before .before .args .shape .now) _ _ (c .before .before .before .before .head-at .ensures .0) (c .before .before .before .before .head-at .ensures .1) (c .before .before .before .form-of .ensures) _ (c .before .bound .given .1) in
+      let i = as-list (c .before .before .before .before .before .before .before .before .pre .1 .0) (reader (c .before .before .before .before .before .before .before .before .args .shape .now)) _ _ (c .before .before .before .before .head-at .ensures .0) (c .before .before .before .before .head-at .ensures .1) (c .before .before .before .form-of .ensures) _ (c .before .bound .given .1) in
       let f = bound-small (i .fair) in
       let l = level-some (g .1 .0) in
       (omega arith, (i .fair, (i .given, limits-down (g .1 .1))))
@@ -181,7 +182,7 @@ module _ (t : ℕ) where
   read-record-read-product-requires-2 : read-record-lts.Need-read-product-requires-2 read-record-calls read-record-at read-record.Post
   read-record-read-product-requires-2 c κs =
       let g = c .before .before .before .before .before .before .before .before .pre in
-      let i = as-payload (c .before .before .before .before .before .before .before .before .pre .1 .0) (c .before .before .before .before .before .before .before .before .args .shape .now) _ _ (c .before .before .before .before .head-at .ensures .0) (c .before .before .before .before .head-at .ensures .1) (c .before .before .before .form-of .ensures) _ (c .before .n2 .given .1) in
+      let i = as-payload (c .before .before .before .before .before .before .before .before .pre .1 .0) (reader (c .before .before .before .before .before .before .before .before .args .shape .now)) _ _ (c .before .before .before .before .head-at .ensures .0) (c .before .before .before .before .head-at .ensures .1) (c .before .before .before .form-of .ensures) _ (c .before .n2 .given .1) in
       let f = i .few in
       let l = level-some (g .1 .0) in
       (omega arith, (f, (i .given, limits-down (g .1 .1))))
@@ -217,7 +218,7 @@ pub +read-block+read-list+read-product+read-record+read-sum-spec : {M : Type 1} 
 +read-block+read-list+read-product+read-record+read-sum-spec =
     close μ-read-block μ-read-list μ-read-product μ-read-record μ-read-sum
     (λ t. read-block-lts.spec (read-block-calls t) (read-block-at t) read-block.Post (λ c κs. search steps) (λ c. search steps) (λ c κs. search steps) (λ c. search steps) (λ c. search steps) (λ c κs. search steps) (λ c. search steps) (λ c. search steps))
-    (λ t. read-list-lts.spec (read-list-calls t) (read-list-at t) read-list.Post (λ c κs. search steps) (λ c. search steps) (λ c κs. search steps) (λ c. search steps) (λ c κs. search steps) (λ c. search steps) (λ c κs. search steps) (λ c. search steps) (read-list-read-block-requires-2 t) (λ c. search steps) (λ c. search steps) (read-list-read-list-requires t) (λ c κs. search steps) (λ c. search steps) (λ c. search steps) (λ c. search steps))
+    (λ t. read-list-lts.spec (read-list-calls t) (read-list-at t) read-list.Post (λ c κs. search steps) (λ c. search steps) (λ c κs. search steps) (λ c κs. search steps) (λ c. search steps) (λ c κs. search steps) (λ c. search steps) (λ c κs. search steps) (λ c. search steps) (read-list-read-block-requires-2 t) (λ c. search steps) (λ c. search steps) (read-list-read-list-requires t) (λ c κs. search steps) (λ c. search steps) (λ c. search steps) (λ c. search steps))
     (λ t. read-product-lts.spec (read-product-calls t) (read-product-at t) read-product.Post (λ c κs. search steps) (λ c. search steps) (λ c. search steps) (λ c κs. search steps) (λ c. search steps) (λ c κs. search steps) (λ c. search steps) (λ c κs. search steps) (λ c. search steps) (λ c. search steps) (λ c. search steps) (λ c κs. search steps) (λ c. search steps) (λ c κs. search steps) (read-product-sub-others t) (read-product-add-read-product t) (read-product-read-product-requires t) (λ c. search steps) (λ c. search steps) (read-product-after-requires t) (read-product-read-product-requires-2 t) (λ c κs. search steps) (λ c. search steps) (λ c. search steps))
     (λ t. read-record-lts.spec (read-record-calls t) (read-record-at t) read-record.Post (λ c κs. search steps) (λ c κs. search steps) (λ c. search steps) (λ c. search steps) (λ c. search steps) (λ c. search steps) (read-record-read-product-requires t) (λ c κs. search steps) (λ c. search steps) (λ c. search steps) (λ c. search steps) (read-record-read-sum-requires t) (λ c κs. search steps) (λ c. search steps) (λ c. search steps) (λ c. search steps) (read-record-read-list-requires t) (λ c κs. search steps) (λ c. search steps) (λ c. search steps) (λ c. search steps) (read-record-read-product-requires-2 t) (λ c. search steps) (λ c. search steps) (λ c. search steps) (λ c. search steps) (λ c. search steps))
     (λ t. read-sum-lts.spec (read-sum-calls t) (read-sum-at t) read-sum.Post (read-sum-read-record-requires t) (λ c. search steps) (λ c κs. search steps) (λ c κs. search steps) (λ c. search steps) (read-sum-read-sum-requires t) (λ c. search steps) (read-sum-sub-others t) (read-sum-hop-requires t) (λ c. search steps) (read-sum-read-sum-requires-2 t) (λ c. search steps) (λ c. search steps))

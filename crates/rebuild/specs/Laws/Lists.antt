@@ -10,17 +10,17 @@ use Rattle.num.specs.declared.Bound.the-variants as bounds
 use Rattle.num.specs.Powers.{bound, bound-log2, half-bound}
 use Rattle.num.specs.Laws.{bounded, bound-power, half-bound-two, half-bound-more}
 use Rattle.types.specs.Heads.{FairBound}
-use Rattle.rebuild.specs.Reads.{pairs, lists, blocks}
+use Rattle.rebuild.specs.Kinds.{Readers, lists, blocks}
 use Rattle.rebuild.specs.Forms.{standing, block-of, listed}
 use Rattle.structural.specs.Laws.Bounds.{Power, power-of}
 
-module _ (sh : List ℕ) where
+module _ {A : Type 0} (W : Readers A) where
   -- with the bound 2 a list is a block of 1
-  pub list-two : {b : NonZeroPow2Usize} (d : ℕ) (s : List ℕ) (p : ℕ) → FairBound b → bounds.Not ≡ half-bound (b .0) → listed sh d s b p ≡ block-of sh d s 1 p
+  pub list-two : {b : NonZeroPow2Usize} (d : ℕ) (s : List ℕ) (p : ℕ) → FairBound b → bounds.Not ≡ half-bound (b .0) → listed W d s b p ≡ block-of W d s 1 p
   unfolding listed block-of lists
   list-two {b} d s p f h = go (f .exponent) (power-of f)
     where
-      go : (e : ℕ) → Power b e → lists sh (bound-log2 (b .0) - 1) (standing sh d s p) ≡ blocks sh 1 (standing sh d s p)
+      go : (e : ℕ) → Power b e → lists W (bound-log2 (b .0) - 1) (standing W d s p) ≡ blocks W 1 (standing W d s p)
       go zero k = rw (k .log2) refl
       go (suc e) k =
           let m : half-bound (b .0) ≡ bounds.Of (bound (2 ^ suc e)) = ap half-bound (k .power) ∙ sym (half-bound-more e) in
@@ -30,7 +30,7 @@ module _ (sh : List ℕ) where
   pub record Halved (b h : NonZeroPow2Usize) (d : ℕ) (s : List ℕ) (p : ℕ) : Type 0 where
     pub fair : FairBound h
     pub less : h .0 < b .0
-    pub same : listed sh d s b p ≡ pairs sh (block-of sh d s (h .0) p) (listed sh d s h p)
+    pub same : listed W d s b p ≡ W .pairs (block-of W d s (h .0) p) (listed W d s h p)
 
   pub list-more : {b h : NonZeroPow2Usize} (d : ℕ) (s : List ℕ) (p : ℕ) → FairBound b → bounds.Of h ≡ half-bound (b .0) → Halved b h d s p
   unfolding listed block-of lists

@@ -1,5 +1,5 @@
--- The law that joins the readers with the model: where a shape stands in a file, `reads` answers if and only if `reconstruct` gives a value,
--- with the end of the shape and the number of the value's records.
+-- The law that joins readers with the model: where a shape stands in a file, `reads` answers if and only if `reconstruct` gives a value,
+-- with the end of the shape, the number of the value's records and what a walk makes of the shape; for those that count, its surplus.
 use mathlib.Core.Path.{_≡_, refl, sym, ap, ap₂, _∙_}
 use mathlib.Core.Bool.{Bool}
 use mathlib.Core.List.{List, [], _∷_, append-nil}
@@ -19,13 +19,17 @@ use Rattle.model.specs.Values.{Value}
 use Rattle.model.specs.ValueFiles.{encode, encodes, encode-choice}
 use Rattle.model.specs.ShapeFiles.{shape-of}
 use Rattle.model.specs.Reconstruct.{as-tuple, as-bit, combine, as-enum-leaf, reconstruct, reconstructs, choose}
+use Rattle.model.specs.Spots.{Walk, walk, walks, walks-of, in-list}
 use Rattle.model.specs.Laws.Balanced.{btree-leaves}
 use Rattle.model.specs.Laws.Options.{mapO-mapO, mapO-bindO, mapO-known, bindO-known}
 use Rattle.model.specs.Laws.ShapeFiles.{shape-written-read}
+use Rattle.model.specs.Laws.Spots.{surplus}
 use Rattle.rebuild.specs.declared.Records.{Records}
 use Rattle.rebuild.specs.declared.Records.the-variants as records
-use Rattle.rebuild.specs.Reads.{records-in, value-records, Reader, blocks, lists, reads, readers, cases}
-use Rattle.rebuild.specs.Laws.Places.{Counter, plusO, unit-count, sum-count, pair-count, any-count, no-count, answer, Same, Sames, units-same, sums-same, pairs-same, fails-same, one-same, same-as, sames-replicate, products-same, choices-same}
+use Rattle.rebuild.specs.Kinds.{Readers, blocks, lists, reads, readers, cases}
+use Rattle.rebuild.specs.Reads.{records-in, value-records}
+use Rattle.rebuild.specs.Laws.Places.{Counter, plusO, unit-count, sum-count, pair-count, any-count, no-count, Same, Sames, none-left, one-more, same-as, sames-replicate, Follows, one-same, bits-same, products-same, choices-same}
+use Rattle.rebuild.specs.Laws.Counting.{answer, reader-follows}
 use Rattle.rebuild.specs.Laws.Counts.{zip, total, product-zip, product-total, list-count, list-total, sum-leaf}
 
 -- WHAT THE MODEL COUNTS
@@ -187,51 +191,51 @@ never-count : (x : SValue) → none ≡ records-of never x
 unfolding reconstruct
 never-count x = refl
 
-module _ (s : List ℕ) where
-  lists-same : (e : ℕ) {r : Reader} {c : Counter} → Same s r c → Same s (lists s e r) (list-count e c)
-  unfolding lists blocks
-  lists-same zero h = sums-same s (units-same s) (products-same s 1 _ _ (sames-replicate s 1 h))
-  lists-same (suc e) h = pairs-same s (sums-same s (units-same s) (products-same s _ _ _ (sames-replicate s (2 ^ suc e) h))) (lists-same e h)
+module _ {R X : Type 0} (answer : ℕ → Option ℕ → X → R) (s : List ℕ) {W : Readers (ℕ → R)} {K : Walk X} (f : Follows answer s W K) where
+  lists-same : (e : ℕ) {r : ℕ → R} {c : Counter} {w : SValue → X} → Same answer s r c w → Same answer s (lists W e r) (list-count e c) (in-list K e w)
+  unfolding lists blocks in-list
+  lists-same zero h = f .sums _ _ _ _ _ _ (f .units) (products-same answer s f 1 (sames-replicate answer s 1 h))
+  lists-same (suc e) h = f .pairs _ _ _ _ _ _ (f .sums _ _ _ _ _ _ (f .units) (products-same answer s f (2 ^ suc e) (sames-replicate answer s (2 ^ suc e) h))) (lists-same e h)
 
   mutual
-    unfolding reads
+    unfolding reads walk
 
-    pub reads-same : (t : Ty) → Same s (reads s t) (records-of t)
-    reads-same never = same-as s (fails-same s) never-count
-    reads-same bool = one-same s (sums-same s (units-same s) (units-same s)) bool-count
-    reads-same (uint w) = one-same s (products-same s w _ _ (sames-replicate s w (sums-same s (units-same s) (units-same s)))) (uint-count w)
-    reads-same (either a b) = one-same s (sums-same s (reads-same a) (reads-same b)) (either-count a b)
-    reads-same (option a) = one-same s (sums-same s (units-same s) (reads-same a)) (option-count a)
-    reads-same (tuple ts) = one-same s (products-same s (size ts) _ _ (readers-same ts)) (tuple-count ts)
-    reads-same (array a n) = one-same s (products-same s n _ _ (sames-replicate s n (reads-same a))) (array-count a n)
-    reads-same (list a e) = one-same s (lists-same e (reads-same a)) (listed-count a e)
-    reads-same (enum vs) = one-same s (choices-same s (count vs) _ _ (cases-same vs)) (enum-count vs)
+    pub reads-same : (t : Ty) → Same answer s (reads W t) (records-of t) (walk K t)
+    reads-same never = same-as answer s (f .fails) never-count
+    reads-same bool = one-same answer s f (bits-same answer s f) bool-count
+    reads-same (uint w) = one-same answer s f (products-same answer s f w (sames-replicate answer s w (bits-same answer s f))) (uint-count w)
+    reads-same (either a b) = one-same answer s f (f .sums _ _ _ _ _ _ (reads-same a) (reads-same b)) (either-count a b)
+    reads-same (option a) = one-same answer s f (f .sums _ _ _ _ _ _ (f .units) (reads-same a)) (option-count a)
+    reads-same (tuple ts) = one-same answer s f (products-same answer s f (size ts) (readers-same ts)) (tuple-count ts)
+    reads-same (array a n) = one-same answer s f (products-same answer s f n (sames-replicate answer s n (reads-same a))) (array-count a n)
+    reads-same (list a e) = one-same answer s f (lists-same e (reads-same a)) (listed-count a e)
+    reads-same (enum vs) = one-same answer s f (choices-same answer s f (count vs) (cases-same vs)) (enum-count vs)
 
-    readers-same : (ts : Tys) → Sames s (readers s ts) (all-of ts)
-    readers-same nil = tt
-    readers-same (cons t ts) = (reads-same t, readers-same ts)
+    readers-same : (ts : Tys) → Sames answer s (readers W ts) (all-of ts) (walks K ts)
+    readers-same nil = none-left
+    readers-same (cons t ts) = one-more (reads-same t) (readers-same ts)
 
-    cases-same : (vs : Variants) → Sames s (cases s vs) (cases-of vs)
-    cases-same (last ts) = (same-as s (products-same s (size ts) _ _ (readers-same ts)) (product-all ts), tt)
-    cases-same (more ts vs) = (same-as s (products-same s (size ts) _ _ (readers-same ts)) (product-all ts), cases-same vs)
+    cases-same : (vs : Variants) → Sames answer s (cases W vs) (cases-of vs) (walks-of K vs)
+    cases-same (last ts) = one-more (same-as answer s (products-same answer s f (size ts) (readers-same ts)) (product-all ts)) none-left
+    cases-same (more ts vs) = one-more (same-as answer s (products-same answer s f (size ts) (readers-same ts)) (product-all ts)) (cases-same vs)
 
--- for a file that says the shape x, reading answers exactly if `reconstruct` gives a value: the whole file's end, and the value's records
-pub reads-reconstruct : (t : Ty) (s : List ℕ) (x : SValue) → shape-of s ≡ done x → reads s t 0 ≡ answer (length s) (records-of t x)
-reads-reconstruct t s x h =
-    let e : s ≡ shape-records x = shape-written-read s x h .0 in
-    reads-same s t .told 0 x (record { rest = []; here = e ∙ sym (append-nil (shape-records x)) })
-    ∙ ap (λ n. answer n (records-of t x)) (zero-add (length (shape-records x)) ∙ ap length (sym e))
+  -- a file that says the shape x is read to its end
+  pub file-same : (t : Ty) (x : SValue) → shape-of s ≡ done x → reads W t 0 ≡ answer (length s) (records-of t x) (walk K t x)
+  file-same t x h =
+      let e : s ≡ shape-records x = shape-written-read s x h .0 in
+      reads-same t .told 0 x (record { rest = []; here = e ∙ sym (append-nil (shape-records x)) })
+      ∙ ap (λ n. answer n (records-of t x) (walk K t x)) (zero-add (length (shape-records x)) ∙ ap length (sym e))
 
--- the records of a value, if there is one
-abbrev pub known : (t : Ty) → Option (Value t) → Records
-known t none = records.Not
-known t (some v) = records.Of (length (encode t v))
+-- the records of a value, if there is one, and so much surplus
+abbrev pub known : (t : Ty) → ℕ → Option (Value t) → Records
+known t k none = records.Not
+known t k (some v) = records.Of (length (encode t v)) k
 
 -- for a file that says the shape x, the answer is of the value that `reconstruct` gives, and none exactly if it gives none
-pub value-records-reconstruct : (t : Ty) (s : List ℕ) (x : SValue) → shape-of s ≡ done x → value-records t s ≡ known t (reconstruct t x)
+pub value-records-reconstruct : (t : Ty) (s : List ℕ) (x : SValue) → shape-of s ≡ done x → value-records t s ≡ known t (surplus t x) (reconstruct t x)
 unfolding value-records
-value-records-reconstruct t s x h = ap records-in (reads-reconstruct t s x h) ∙ go (reconstruct t x)
+value-records-reconstruct t s x h = ap records-in (file-same answer s (reader-follows s) t x h) ∙ go (reconstruct t x)
   where
-    go : (o : Option (Value t)) → records-in (answer (length s) (mapO (λ v. length (encode t v)) o)) ≡ known t o
+    go : (o : Option (Value t)) → records-in (answer (length s) (mapO (λ v. length (encode t v)) o) (surplus t x)) ≡ known t (surplus t x) o
     go none = refl
     go (some v) = refl

@@ -1,5 +1,5 @@
 -- How many records a reading can give: each has a place of the shape and a level of the type of its own, so for a type of d levels
--- there are at most d + 1 for each record of the shape that was read.
+-- there are at most d + 1 for each record of the shape that was read. And the surplus is no more than these.
 use mathlib.Core.Path.{_≡_, refl}
 use mathlib.Core.List.{List, [], _∷_}
 use Prim.Native.Nat.{ℕ, zero, suc, _+_, _-_, _*_, _≤_, _<_, _^_}
@@ -23,16 +23,18 @@ use Rattle.types.specs.Trees.{endOf, kids, node, payload, tree, treev}
 use Rattle.types.specs.Trees as trees
 use Rattle.rebuild.specs.declared.Read.{Read}
 use Rattle.rebuild.specs.declared.Read.the-variants.{Of, Not}
-use Rattle.rebuild.specs.Reads.{Reader, plus, next, closed, side, both, passed, units, sums, pairs, passes, fails, products, choices, bits, blocks, lists, one, reads, readers, cases}
+use Rattle.rebuild.specs.Kinds.{products, choices, bits, blocks, lists, reads, readers, cases}
+use Rattle.rebuild.specs.Reads.{Reader, plus, next, closed, side, both, passed, units, sums, pairs, passes, fails, one, reader}
 
--- what was read from p on ends within the file, with at most L records of the value for each of the shape
-pub record Within (z L p e n : ℕ) : Type 0 where
+-- what was read from p on ends within the file, with at most L records of the value for each of the shape, and its surplus is among these
+pub record Within (z L p e n k : ℕ) : Type 0 where
   pub after : p < e
   pub inside : e ≤ z
   pub few : n + L * p ≤ L * e
+  pub part : k + p ≤ e
 
 abbrev pub Fits : ℕ → ℕ → ℕ → Read → Type 0
-Fits z L p (Of e n) = Within z L p e n
+Fits z L p (Of e n k) = Within z L p e n k
 Fits z L p Not = Unit
 
 pub record Small (s : List ℕ) (L : ℕ) (r : Reader) : Type 0 where
@@ -40,29 +42,29 @@ pub record Small (s : List ℕ) (L : ℕ) (r : Reader) : Type 0 where
 
 -- NUMBERS
 
-from-next : (z L p e n : ℕ) → Within z L (p + 1) e n → Within z L p e n
-from-next z L p e n h = let a = h .after in let b = h .few in let m : L * p ≤ L * (p + 1) = mul-le-mul-left L (omega arith) in record { after = omega arith; inside = h .inside; few = more (L * p) (L * (p + 1)) (L * e) n m b }
+from-next : (z L p e n k : ℕ) → Within z L (p + 1) e n k → Within z L p e n k
+from-next z L p e n k h = let a = h .after in let b = h .few in let c = h .part in let m : L * p ≤ L * (p + 1) = mul-le-mul-left L (omega arith) in record { after = omega arith; inside = h .inside; few = more (L * p) (L * (p + 1)) (L * e) n m b; part = omega arith }
   where
     more : (a b c n : ℕ) → a ≤ b → n + b ≤ c → n + a ≤ c
     more a b c n e h = omega arith
 
-then-next : (z L p m e n k : ℕ) → Within z L p m n → Within z L m e k → Within z L p e (n + k)
-then-next z L p m e n k h g = let a = h .after in let b = g .after in record { after = omega arith; inside = g .inside; few = more (L * p) (L * m) (L * e) n k (h .few) (g .few) }
+then-next : (z L p m e n k i j : ℕ) → Within z L p m n i → Within z L m e k j → Within z L p e (n + k) (i + j)
+then-next z L p m e n k i j h g = let a = h .after in let b = g .after in let c = h .part in let d = g .part in record { after = omega arith; inside = g .inside; few = more (L * p) (L * m) (L * e) n k (h .few) (g .few); part = omega arith }
   where
     more : (a b c n k : ℕ) → n + a ≤ b → k + b ≤ c → n + k + a ≤ c
     more a b c n k h g = omega arith
 
-none-read : (z L p e : ℕ) → p < e → e ≤ z → Within z L p e 0
-none-read z L p e h g = let m : L * p ≤ L * e = mul-le-mul-left L (omega arith) in record { after = h; inside = g; few = omega arith }
+none-read : (z L p e k : ℕ) → p < e → e ≤ z → k + p ≤ e → Within z L p e 0 k
+none-read z L p e k h g i = let m : L * p ≤ L * e = mul-le-mul-left L (omega arith) in record { after = h; inside = g; few = omega arith; part = i }
 
-deeper : (z L p e n : ℕ) → Within z L p e n → Within z (suc L) p e (1 + n)
-deeper z L p e n h = let a = h .after in record { after = a; inside = h .inside; few = more (L * p) (L * e) (suc L * p) (suc L * e) n (suc-mul L p) (suc-mul L e) (h .few) a }
+deeper : (z L p e n k : ℕ) → Within z L p e n k → Within z (suc L) p e (1 + n) (0 + k)
+deeper z L p e n k h = let i = h .part in let a = h .after in record { after = a; inside = h .inside; few = more (L * p) (L * e) (suc L * p) (suc L * e) n (suc-mul L p) (suc-mul L e) (h .few) a; part = omega arith }
   where
     more : (a b c d n : ℕ) → c ≡ a + p → d ≡ b + e → n + a ≤ b → p < e → 1 + n + c ≤ d
     more a b c d n f g h l = omega arith
 
-wider : (z L p e n : ℕ) → Within z L p e n → Within z (suc L) p e n
-wider z L p e n h = let a = h .after in record { after = a; inside = h .inside; few = more (L * p) (L * e) (suc L * p) (suc L * e) n (suc-mul L p) (suc-mul L e) (h .few) a }
+wider : (z L p e n k : ℕ) → Within z L p e n k → Within z (suc L) p e n k
+wider z L p e n k h = let i = h .part in let a = h .after in record { after = a; inside = h .inside; few = more (L * p) (L * e) (suc L * p) (suc L * e) n (suc-mul L p) (suc-mul L e) (h .few) a; part = omega arith }
   where
     more : (a b c d n : ℕ) → c ≡ a + p → d ≡ b + e → n + a ≤ b → p < e → n + c ≤ d
     more a b c d n f g h l = omega arith
@@ -73,23 +75,23 @@ in-file (x ∷ s) zero b e l = omega arith
 in-file (x ∷ s) (suc p) b e l = omega (arith, in-file s p b e l)
 
 from-next-fits : (z L p : ℕ) (r : Read) → Fits z L (p + 1) r → Fits z L p r
-from-next-fits z L p (Of e n) h = from-next z L p e n h
+from-next-fits z L p (Of e n k) h = from-next z L p e n k h
 from-next-fits z L p Not h = tt
 
-plus-fits : (z L p m n : ℕ) (r : Read) → Within z L p m n → Fits z L m r → Fits z L p (plus n r)
-plus-fits z L p m n (Of e k) h g = then-next z L p m e n k h g
-plus-fits z L p m n Not h g = tt
+plus-fits : (z L p m n i : ℕ) (r : Read) → Within z L p m n i → Fits z L m r → Fits z L p (plus n i r)
+plus-fits z L p m n i (Of e k j) h g = then-next z L p m e n k i j h g
+plus-fits z L p m n i Not h g = tt
 
 next-fits : (z L p : ℕ) (o : Read) (r : Reader) → Fits z L p o → ((m : ℕ) → Fits z L m (r m)) → Fits z L p (next o r)
-next-fits z L p (Of m n) r h g = plus-fits z L p m n (r m) h (g m)
+next-fits z L p (Of m n i) r h g = plus-fits z L p m n i (r m) h (g m)
 next-fits z L p Not r h g = tt
 
-one-fits : (z L p : ℕ) (r : Read) → Fits z L p r → Fits z (suc L) p (plus 1 r)
-one-fits z L p (Of e n) h = deeper z L p e n h
+one-fits : (z L p : ℕ) (r : Read) → Fits z L p r → Fits z (suc L) p (plus 1 0 r)
+one-fits z L p (Of e n k) h = deeper z L p e n k h
 one-fits z L p Not h = tt
 
 wider-fits : (z L p : ℕ) (r : Read) → Fits z L p r → Fits z (suc L) p r
-wider-fits z L p (Of e n) h = wider z L p e n h
+wider-fits z L p (Of e n k) h = wider z L p e n k h
 wider-fits z L p Not h = tt
 
 -- READERS
@@ -100,7 +102,7 @@ module _ (s : List ℕ) (L : ℕ) where
   units-small = record { fits = λ p. go p (getD s p 4) refl }
     where
       go : (p b : ℕ) → getD s p 4 ≡ b → Fits (length s) L p (closed b (p + 1))
-      go p zero e = none-read (length s) L p (p + 1) (omega arith) (in-file s p 0 e (omega arith))
+      go p zero e = none-read (length s) L p (p + 1) 0 (omega arith) (in-file s p 0 e (omega arith)) (omega arith)
       go p (suc b) e = tt
 
   pub sums-small : {l r : Reader} → Small s L l → Small s L r → Small s L (sums s l r)
@@ -128,8 +130,8 @@ module _ (s : List ℕ) (L : ℕ) where
   unfolding passes
   passes-small = record { fits = λ p. go p (tree-end-of s p) refl }
     where
-      go : (p : ℕ) (o : TreeEnd) → tree-end-of s p ≡ o → Fits (length s) L p (passed o)
-      go p (At e) h = let t = tree-end-at (length (drop p s)) s p e (omega arith) h in none-read (length s) L p e (t .after) (t .inside)
+      go : (p : ℕ) (o : TreeEnd) → tree-end-of s p ≡ o → Fits (length s) L p (passed p o)
+      go p (At e) h = let t = tree-end-at (length (drop p s)) s p e (omega arith) h in let a = t .after in none-read (length s) L p e (e - (p + 1)) (t .after) (t .inside) (omega arith)
       go p Nothing h = tt
 
   pub fails-small : Small s L (fails s)
@@ -160,23 +162,24 @@ module _ (s : List ℕ) (L : ℕ) where
     fold-small leaf (r ∷ rs) h = h .0
     fold-small (fork l r) rs h = k _ _ (fold-small l _ (smalls-take (leaves l) rs h)) (fold-small r _ (smalls-drop (leaves l) rs h))
 
-  pub products-small : (n : ℕ) (rs : List Reader) → Smalls rs → Small s L (products s n rs)
-  unfolding products
+  pub products-small : (n : ℕ) (rs : List Reader) → Smalls rs → Small s L (products (reader s) n rs)
+  unfolding products reader
   products-small n = fold-small (pairs s) (passes s) (λ l r f g. pairs-small f g) passes-small (btree n)
 
-  pub choices-small : (n : ℕ) (rs : List Reader) → Smalls rs → Small s L (choices s n rs)
-  unfolding choices
+  pub choices-small : (n : ℕ) (rs : List Reader) → Smalls rs → Small s L (choices (reader s) n rs)
+  unfolding choices reader
   choices-small n = fold-small (sums s) (fails s) (λ l r f g. sums-small f g) fails-small (btree n)
 
-  pub bits-small : Small s L (bits s)
+  pub bits-small : Small s L (bits (reader s))
+  unfolding reader
   bits-small = sums-small units-small units-small
 
-  pub blocks-small : (n : ℕ) {r : Reader} → Small s L r → Small s L (blocks s n r)
-  unfolding blocks
+  pub blocks-small : (n : ℕ) {r : Reader} → Small s L r → Small s L (blocks (reader s) n r)
+  unfolding blocks reader
   blocks-small n {r} h = sums-small units-small (products-small n (replicate n r) (smalls-replicate n h))
 
-  pub lists-small : (e : ℕ) {r : Reader} → Small s L r → Small s L (lists s e r)
-  unfolding lists
+  pub lists-small : (e : ℕ) {r : Reader} → Small s L r → Small s L (lists (reader s) e r)
+  unfolding lists reader
   lists-small zero h = blocks-small 1 h
   lists-small (suc e) h = pairs-small (blocks-small (2 ^ suc e) h) (lists-small e h)
 
@@ -189,22 +192,22 @@ module _ (s : List ℕ) (L : ℕ) where
 -- TYPES
 
 module _ (s ty : List ℕ) where
-  kids-small : (L : ℕ) (g : ℕ → Ty) (f : ℕ → Walk) → ((p : ℕ) → Small s L (reads s (g p))) → (n p : ℕ) → Smalls s L (readers s (kids g f n p))
-  unfolding kids reads
+  kids-small : (L : ℕ) (g : ℕ → Ty) (f : ℕ → Walk) → ((p : ℕ) → Small s L (reads (reader s) (g p))) → (n p : ℕ) → Smalls s L (readers (reader s) (kids g f n p))
+  unfolding kids reads reader
   kids-small L g f h zero p = tt
   kids-small L g f h (suc n) p = (h p, kids-small L g f h n (endOf (f p)))
 
   -- a payload
   abbrev held : Tys → Reader
-  held ts = products s (size ts) (readers s ts)
+  held ts = products (reader s) (size ts) (readers (reader s) ts)
 
-  cases-small : (L : ℕ) (g : ℕ → Tys) (f : ℕ → Walk) → ((p : ℕ) → Small s L (held (g p))) → (n p : ℕ) → Smalls s L (cases s (trees.cases g f n p))
-  unfolding trees.cases reads
+  cases-small : (L : ℕ) (g : ℕ → Tys) (f : ℕ → Walk) → ((p : ℕ) → Small s L (held (g p))) → (n p : ℕ) → Smalls s L (cases (reader s) (trees.cases g f n p))
+  unfolding trees.cases reads reader
   cases-small L g f h zero p = (h p, tt)
   cases-small L g f h (suc n) p = (h p, cases-small L g f h n (endOf (f p)))
 
-  node-small : (L : ℕ) (x : Head) (g : ℕ → Ty) (f : ℕ → Walk) (h : ℕ → Tys) (k : ℕ → Walk) (p : ℕ) → ((q : ℕ) → Small s L (reads s (g q))) → ((q : ℕ) → Small s L (held (h q))) → Small s (suc L) (reads s (node x g f h k p))
-  unfolding node reads
+  node-small : (L : ℕ) (x : Head) (g : ℕ → Ty) (f : ℕ → Walk) (h : ℕ → Tys) (k : ℕ → Walk) (p : ℕ) → ((q : ℕ) → Small s L (reads (reader s) (g q))) → ((q : ℕ) → Small s L (held (h q))) → Small s (suc L) (reads (reader s) (node x g f h k p))
+  unfolding node reads reader
   node-small L Missing g f h k p a b = one-small s L (products-small s L 0 [] tt)
   node-small L Faulty g f h k p a b = one-small s L (products-small s L 0 [] tt)
   node-small L Never g f h k p a b = fails-small s (suc L)
@@ -218,8 +221,8 @@ module _ (s ty : List ℕ) where
   node-small L (head.Variants n) g f h k p a b = one-small s L (choices-small s L _ _ (cases-small L h k b (n - 1) p))
   node-small L (Payload n) g f h k p a b = one-small s L (products-small s L 0 [] tt)
 
-  payload-small : (L : ℕ) (x : Rec) (g : ℕ → Ty) (f : ℕ → Walk) (p : ℕ) → ((q : ℕ) → Small s L (reads s (g q))) → Small s L (held (payload x g f p))
-  unfolding payload reads
+  payload-small : (L : ℕ) (x : Rec) (g : ℕ → Ty) (f : ℕ → Walk) (p : ℕ) → ((q : ℕ) → Small s L (reads (reader s) (g q))) → Small s L (held (payload x g f p))
+  unfolding payload reads reader
   payload-small L Gone g f p a = products-small s L 0 [] tt
   payload-small L Wrong g f p a = products-small s L 0 [] tt
   payload-small L (Types n) g f p a = products-small s L 0 [] tt
@@ -227,9 +230,9 @@ module _ (s ty : List ℕ) where
   payload-small L (Variant n) g f p a = products-small s L _ _ (kids-small L g f a n p)
 
   mutual
-    unfolding tree reads
+    unfolding tree reads reader
 
-    pub tree-small : (d p : ℕ) → Small s (suc d) (reads s (tree d ty p))
+    pub tree-small : (d p : ℕ) → Small s (suc d) (reads (reader s) (tree d ty p))
     tree-small zero p = one-small s 0 (products-small s 0 0 [] tt)
     tree-small (suc d) p = node-small (suc d) (headAt ty p) _ _ _ _ (p + 1) (λ q. tree-small d q) (λ q. treev-small d q)
 

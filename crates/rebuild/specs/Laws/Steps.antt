@@ -1,41 +1,59 @@
 -- What a reader answers, by the record that stands at a place: in the form in which the code's needs ask it.
 use mathlib.Core.Path.{_≡_, refl, sym, ap, _∙_}
 use mathlib.Core.List.{List}
-use Prim.Native.Nat.{ℕ, zero, suc, _+_, _^_, _≤_, _<_}
+use Prim.Native.Nat.{ℕ, zero, suc, _+_, _-_, _^_, _≤_, _<_}
 use native.Mathlib.Omega.{arith}
 use mir.Syntax.{w64}
 use mir.Val.{Fits}
-use lib.ListN.{length, getD}
+use lib.ListN.{length, getD, drop}
 use Rattle.array.specs.declared.TreeEnd.{TreeEnd}
 use Rattle.array.specs.declared.TreeEnd.the-variants.{At, Nothing}
 use Rattle.array.specs.Ends.{tree-end-of}
+use Rattle.array.specs.Laws.{tree-end-at}
 use Rattle.rebuild.specs.declared.Parts.{Parts}
 use Rattle.rebuild.specs.declared.Parts.the-variants.{Bits, Copies, Types}
 use Rattle.rebuild.specs.declared.Read.{Read}
 use Rattle.rebuild.specs.declared.Read.the-variants.{Of, Not}
 use Rattle.rebuild.specs.Reads.{Reader, plus, next, closed, side, both, passed, units, sums, pairs, passes}
-use Rattle.rebuild.specs.Forms.{most-records, count-of, skip, Hopped}
+use Rattle.rebuild.specs.Forms.{most-records, Few, count-of, surplus-of, skip, Hopped}
 use Rattle.told.specs.Forms.{hops, Hops}
 use Rattle.rebuild.specs.Laws.Small.{in-file}
 
-module _ (n : ℕ) (r : Read) (e k : ℕ) (h : r ≡ Of e k) where
-  pub plus-of : Of e (n + k) ≡ plus n r
-  plus-of = sym (ap (plus n) h)
+module _ (n i : ℕ) (r : Read) (e k j : ℕ) (h : r ≡ Of e k j) where
+  pub plus-of : Of e (n + k) (i + j) ≡ plus n i r
+  plus-of = sym (ap (plus n i) h)
 
-  pub plus-fits : n ≤ most-records → count-of r ≤ most-records → Fits w64 (n + k)
-  plus-fits l m = let c : count-of r ≡ k = ap count-of h in omega arith
+  pub plus-fits : n ≤ most-records → Few (count-of r) (surplus-of r) → Fits w64 (n + k)
+  plus-fits l m = let c : count-of r ≡ k = ap count-of h in let b = m .records in omega arith
 
-pub plus-not : (n : ℕ) (r : Read) → r ≡ Not → Not ≡ plus n r
-plus-not n r h = sym (ap (plus n) h)
+  pub surplus-fits : i ≤ most-records → Few (count-of r) (surplus-of r) → Fits w64 (i + j)
+  surplus-fits l m = let c : surplus-of r ≡ j = ap surplus-of h in let b = m .surplus in omega arith
+
+pub plus-not : (n i : ℕ) (r : Read) → r ≡ Not → Not ≡ plus n i r
+plus-not n i r h = sym (ap (plus n i) h)
+
+-- a record of the value's own, which is no surplus
+pub few-one : 1 ≤ most-records
+few-one = omega arith
+
+pub few-none : 0 ≤ most-records
+few-none = omega arith
 
 module _ (s : List ℕ) (p : ℕ) where
-  pub any-at : (o : TreeEnd) (e : ℕ) → o ≡ tree-end-of s p → o ≡ At e → Of e 0 ≡ passes s p
+  pub any-at : (o : TreeEnd) (e : ℕ) → o ≡ tree-end-of s p → o ≡ At e → Of e 0 (e - (p + 1)) ≡ passes s p
   unfolding passes
-  any-at o e h k = ap passed (sym k ∙ h)
+  any-at o e h k = ap (passed p) (sym k ∙ h)
+
+  -- a tree has a record
+  pub any-after : (o : TreeEnd) (e : ℕ) → o ≡ tree-end-of s p → o ≡ At e → p + 1 ≤ e
+  any-after o e h k = let t = tree-end-at (length (drop p s)) s p e (omega arith) (sym h ∙ k) in let a = t .after in omega arith
+
+  pub any-next : (o : TreeEnd) (e : ℕ) → o ≡ tree-end-of s p → o ≡ At e → e < 2 ^ 64 → Fits w64 (p + 1)
+  any-next o e h k l = omega (arith, any-after o e h k)
 
   pub any-nothing : (o : TreeEnd) → o ≡ tree-end-of s p → o ≡ Nothing → Not ≡ passes s p
   unfolding passes
-  any-nothing o h k = ap passed (sym k ∙ h)
+  any-nothing o h k = ap (passed p) (sym k ∙ h)
 
   module _ (b : ℕ) (h : b ≡ getD s p 4) (l : length s < 2 ^ 64) where
     pub unit-fits : b ≡ 0 → Fits w64 (p + 1)
@@ -51,7 +69,7 @@ module _ (s : List ℕ) (p : ℕ) where
     pair-fits e = omega (arith, in-file s p b (sym h) (omega arith))
 
   module _ (b : ℕ) (h : b ≡ getD s p 4) where
-    pub unit-yes : b ≡ 0 → Of (p + 1) 0 ≡ units s p
+    pub unit-yes : b ≡ 0 → Of (p + 1) 0 0 ≡ units s p
     unfolding units
     unit-yes e = ap (λ x. closed x (p + 1)) (sym e ∙ h)
 
@@ -96,9 +114,9 @@ module _ (s : List ℕ) (p : ℕ) where
     unfolding pairs
     pair-stop l r x e f g = ap (λ y. next y r) (sym g ∙ f) ∙ ap (λ y. both y l r (p + 1)) (sym e ∙ h)
 
-    pub pair-on : (l r : Reader) (x y z : Read) (q n : ℕ) → b ≡ 3 → x ≡ l (p + 1) → x ≡ Of q n → y ≡ r q → z ≡ plus n y → z ≡ pairs s l r p
+    pub pair-on : (l r : Reader) (x y z : Read) (q n k : ℕ) → b ≡ 3 → x ≡ l (p + 1) → x ≡ Of q n k → y ≡ r q → z ≡ plus n k y → z ≡ pairs s l r p
     unfolding pairs
-    pair-on l r x y z q n e f g i j = j ∙ ap (plus n) i ∙ ap (λ o. next o r) (sym g ∙ f) ∙ ap (λ o. both o l r (p + 1)) (sym e ∙ h)
+    pair-on l r x y z q n k e f g i j = j ∙ ap (plus n k) i ∙ ap (λ o. next o r) (sym g ∙ f) ∙ ap (λ o. both o l r (p + 1)) (sym e ∙ h)
 
 -- PLACES IN THE TYPE FILE
 

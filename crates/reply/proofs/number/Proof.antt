@@ -1,24 +1,18 @@
--- The number of a reply: 0, or that of its refusal's row. Assumes nothing.
-use mathlib.Core.Path.{sym, ap, _∙_}
+-- A refusal's number is the refusal's own. Assumes nothing.
+use mathlib.Core.Path.{_≡_, sym, ap, _∙_}
+use Prim.Native.Nat.{ℕ}
 use borrow.Author.Needs.{needs}
-use Rattle.reply.specs.Numbers.{numberOf}
+use Rattle.reply.specs.declared.Refusal.{Refusal}
+use Rattle.reply.specs.declared.Reply.{Reply}
+use Rattle.reply.specs.declared.Reply.the-variants.{Refused}
+use Rattle.reply.specs.Numbers.{refusalNumber, numberOf}
 use Rattle.reply.proofs.number.Statement.{statement}
 use Rattle.reply.proofs.number.Tie as tie
 
-enum-told : tie.Need-enum-told
-enum-told c = search needs
+of-refusal : (r : Reply) (x : Refusal) (n : ℕ) → r ≡ Refused x → n ≡ refusalNumber x → n ≡ numberOf r
+of-refusal r x n e h = h ∙ ap numberOf (sym e)
 
-enum-known-x : tie.Need-enum-known-x
-enum-known-x c = search needs
-
-refusal-number-requires : tie.Need-refusal-number-requires
-refusal-number-requires c κs = search needs
-
-returns : tie.Need-returns
-returns c = search needs
-
-returns-2 : tie.Need-returns-2
-returns-2 c = c .refusal-number .ensures ∙ ap numberOf (sym (c .before .before .x .given .1))
+ruleset arms = (of-refusal, needs)
 
 pub number-spec : {M : Type 1} → statement M
-number-spec = tie.close (tie.spec enum-told enum-known-x refusal-number-requires returns returns-2)
+number-spec = tie.close (tie.spec (λ c. search needs) (λ c. search needs) (λ c κs. search needs) (λ c. search needs) (λ c. search arms))

@@ -26,7 +26,7 @@
  *
  * The library, libniegluk.a, is for x86-64: one ELF object, for any such processor,
  * with the System V calling convention. It has no data and no bss, defines no global
- * symbol but the seven functions, and is position independent, so that a shared
+ * symbol but the eight functions, and is position independent, so that a shared
  * object can have it too. It wants only `memset` from outside: a program without a C
  * library brings its own. niegluk_says is not in it, but in niegluk_says.c.
  */
@@ -68,7 +68,7 @@ enum niegluk_number {
     /* the shape does not read as a value of the type */
     NIEGLUK_NOT_RECONSTRUCTED = 10,
     /* something other than a unit stands where the shape is read as an empty tuple, an
-     * array of 0 or a variant without parts */
+     * array of 0 or a variant without parts (niegluk_clean_shape puts one there) */
     NIEGLUK_NO_UNIT = 20,
     /* the frame has another length than the type's frames */
     NIEGLUK_FRAME_LENGTH = 11,
@@ -103,6 +103,7 @@ const char *niegluk_says(uint32_t number);
 #define NIEGLUK_STACK_LOWER 99328
 #define NIEGLUK_STACK_WRITE_SHAPE 98304
 #define NIEGLUK_STACK_RECONSTRUCT 162816
+#define NIEGLUK_STACK_CLEAN_SHAPE 181760
 #define NIEGLUK_STACK_WRITE_FRAME 60416
 #define NIEGLUK_STACK_READ_FRAME 61440
 #define NIEGLUK_STACK_PART_READ 61440
@@ -128,6 +129,18 @@ uint32_t niegluk_write_shape(const uint8_t *ty, size_t ty_len,
  * those that niegluk_write_shape writes.
  * At most 77,856,768 bytes. Numbers 1 to 5, 8, 9, 10, 20 and 17. */
 uint32_t niegluk_reconstruct(const uint8_t *ty, size_t ty_len,
+                             const uint8_t *shape, size_t shape_len,
+                             uint8_t *out, size_t out_len, size_t *length);
+
+/* Cleans a shape: writes it with a unit wherever an empty tuple, an array of 0 or a
+ * variant without parts is read, and all else as it is. It takes the shapes that
+ * niegluk_reconstruct takes and those that it refuses with 20, of any type, be it
+ * one that lowers or not. niegluk_reconstruct accepts the result; for a type that
+ * lowers it is what niegluk_write_shape makes of that value. A shape that
+ * niegluk_reconstruct accepts comes back equal.
+ * Never longer than the shape, so at most 65,536 bytes: a buffer as long as the
+ * shape is enough. Numbers 1 to 5, 8, 9, 10 and 17. */
+uint32_t niegluk_clean_shape(const uint8_t *ty, size_t ty_len,
                              const uint8_t *shape, size_t shape_len,
                              uint8_t *out, size_t out_len, size_t *length);
 

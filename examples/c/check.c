@@ -11,7 +11,7 @@
 
 enum { MOST = 65536, SPARE = 16, FILL = 0xA5 };
 
-enum operation { LOWER, SHAPE, RECONSTRUCT, FRAME, UNFRAME };
+enum operation { LOWER, SHAPE, RECONSTRUCT, CLEAN, FRAME, UNFRAME };
 
 static uint8_t buffer[MOST + SPARE];
 static int failures;
@@ -98,6 +98,9 @@ static uint32_t call(enum operation op, const struct file *ty, const struct file
                                    length);
     case RECONSTRUCT:
         return niegluk_reconstruct(ty->bytes, ty->length, other->bytes, other->length, out, out_len,
+                                   length);
+    case CLEAN:
+        return niegluk_clean_shape(ty->bytes, ty->length, other->bytes, other->length, out, out_len,
                                    length);
     case FRAME:
         return niegluk_write_frame(ty->bytes, ty->length, other->bytes, other->length, out, out_len,
@@ -187,8 +190,10 @@ static void types(void)
         refused(bad[i].name, SHAPE, &ty, &empty, bad[i].number);
         refused(bad[i].name, FRAME, &ty, &empty, bad[i].number);
         refused(bad[i].name, UNFRAME, &ty, &empty, bad[i].number);
-        if (bad[i].number <= 5)
+        if (bad[i].number <= 5) {
             refused(bad[i].name, RECONSTRUCT, &ty, &empty, bad[i].number);
+            refused(bad[i].name, CLEAN, &ty, &empty, bad[i].number);
+        }
     }
 }
 
@@ -302,21 +307,36 @@ static void values(void)
         { "never", "00000000", "0", 10 },
         { "u2 with one bit short", "02000002", "3100", 10 },
         { "a unit for a bit", "01000000", "0", 10 },
-        { "a pair for ()", "05000000", "300", 20 },
-        { "a pair for an array of 0", "06000000 00000000", "300", 20 },
-        { "a pair for a variant without parts", "08000002 09000000 09000000", "2300", 20 },
-        { "a left for the () of a payload", "08000001 09000001 05000000", "10", 20 },
-        { "a left for the () of a some", "04000000 05000000", "210", 20 },
-        { "a right for the () of a list", "07000004 05000000", "32302010", 20 },
         { "a left for (), and a tree left over", "05000000", "100", 9 },
         { "a left for (), then a unit for a bit", "05000002 05000000 01000000", "3100", 10 },
         { "a unit for a bit, then a left for ()", "05000002 01000000 05000000", "3010", 10 },
+    };
+    /* anything but a unit at a spot: refused when it is read, and cleaned */
+    static const struct {
+        const char *name, *type, *shape, *clean, *value;
+    } unclean[] = {
+        { "a pair for ()", "05000000", "300", "0", "05000000" },
+        { "a pair for an array of 0", "06000000 00000000", "300", "0", "06000000" },
+        { "a pair for a variant without parts", "08000002 09000000 09000000", "2300", "20",
+          "08000001" },
+        { "a left for the () of a payload", "08000001 09000001 05000000", "10", "0",
+          "08000000 05000000" },
+        { "a left for the () of a some", "04000000 05000000", "210", "20", "04010000 05000000" },
+        { "a right for the () of a list", "07000004 05000000", "32302010", "3230010",
+          "07000002 05000000 05000000" },
+        { "a left for each of two ()", "05000002 05000000 05000000", "31010", "300",
+          "05000002 05000000 05000000" },
+        { "a tree for the second of three", "05000003 01000000 05000000 02000001", "320330010",
+          "3203010", "05000003 01010000 05000000 02000001" },
+        { "a left for (), beside a never not reached", "05000002 05000000 04000000 00000000",
+          "31010", "3010", "05000002 05000000 04000000" },
     };
     for (size_t i = 0; i < sizeof good / sizeof *good; i++) {
         struct file ty = hex(good[i].type), val = value(good[i].value),
                     shape = digits(good[i].shape);
         gives(good[i].name, SHAPE, &ty, &val, shape.bytes, shape.length);
         gives(good[i].name, RECONSTRUCT, &ty, &shape, val.bytes, val.length);
+        gives(good[i].name, CLEAN, &ty, &shape, shape.bytes, shape.length);
         struct file frame = hex(good[i].frame);
         gives(good[i].name, FRAME, &ty, &val, frame.bytes, frame.length);
         gives(good[i].name, UNFRAME, &ty, &frame, val.bytes, val.length);
@@ -329,10 +349,20 @@ static void values(void)
     for (size_t i = 0; i < sizeof odd / sizeof *odd; i++) {
         struct file ty = hex(odd[i].type), shape = digits(odd[i].shape), val = value(odd[i].value);
         gives(odd[i].name, RECONSTRUCT, &ty, &shape, val.bytes, val.length);
+        gives(odd[i].name, CLEAN, &ty, &shape, shape.bytes, shape.length);
+    }
+    for (size_t i = 0; i < sizeof unclean / sizeof *unclean; i++) {
+        struct file ty = hex(unclean[i].type), shape = digits(unclean[i].shape),
+                    clean = digits(unclean[i].clean), val = value(unclean[i].value);
+        refused(unclean[i].name, RECONSTRUCT, &ty, &shape, 20);
+        gives(unclean[i].name, CLEAN, &ty, &shape, clean.bytes, clean.length);
+        gives(unclean[i].name, CLEAN, &ty, &clean, clean.bytes, clean.length);
+        gives(unclean[i].name, RECONSTRUCT, &ty, &clean, val.bytes, val.length);
     }
     for (size_t i = 0; i < sizeof none / sizeof *none; i++) {
         struct file ty = hex(none[i].type), shape = digits(none[i].shape);
         refused(none[i].name, RECONSTRUCT, &ty, &shape, none[i].number);
+        refused(none[i].name, CLEAN, &ty, &shape, none[i].number);
     }
     struct file ty = hex("01000000");
     static uint8_t long_shape[MOST + 1];
@@ -345,6 +375,10 @@ static void values(void)
     expect(niegluk_reconstruct(ty.bytes, ty.length, long_shape, MOST, buffer, MOST, &length) == 9 &&
                length == 0 && untouched(0),
            "65,536 units", "not 9");
+    expect(niegluk_clean_shape(ty.bytes, ty.length, long_shape, MOST + 1, buffer, MOST, &length) ==
+                   8 &&
+               length == 0 && untouched(0),
+           "65,537 records to clean", "not 8");
 }
 
 static void frames(void)

@@ -37,7 +37,16 @@ typedef uint32_t reading(const uint8_t *, size_t, const uint8_t *, size_t, const
 typedef uint32_t editing(const uint8_t *, size_t, uint8_t *, size_t, const uint8_t *, size_t,
                          const uint8_t *, size_t, size_t *);
 
-enum operation { LOWER, WRITE_SHAPE, RECONSTRUCT, WRITE_FRAME, READ_FRAME, PART_READ, PART_EDIT };
+enum operation {
+    LOWER,
+    WRITE_SHAPE,
+    RECONSTRUCT,
+    CLEAN_SHAPE,
+    WRITE_FRAME,
+    READ_FRAME,
+    PART_READ,
+    PART_EDIT
+};
 
 /* A function, one of the four pointers, and the stack that it is lent. */
 struct entry {
@@ -53,6 +62,7 @@ static const struct entry entries[] = {
     [LOWER] = { "lower", NIEGLUK_STACK_LOWER, .lower = niegluk_lower },
     [WRITE_SHAPE] = { "write_shape", NIEGLUK_STACK_WRITE_SHAPE, .turn = niegluk_write_shape },
     [RECONSTRUCT] = { "reconstruct", NIEGLUK_STACK_RECONSTRUCT, .turn = niegluk_reconstruct },
+    [CLEAN_SHAPE] = { "clean_shape", NIEGLUK_STACK_CLEAN_SHAPE, .turn = niegluk_clean_shape },
     [WRITE_FRAME] = { "write_frame", NIEGLUK_STACK_WRITE_FRAME, .turn = niegluk_write_frame },
     [READ_FRAME] = { "read_frame", NIEGLUK_STACK_READ_FRAME, .turn = niegluk_read_frame },
     [PART_READ] = { "part_read", NIEGLUK_STACK_PART_READ, .read = niegluk_part_read },
@@ -281,6 +291,13 @@ static const struct question {
       "(" LAST ")*31 " ZERO, "" },
     { "tuples of 33 over an integer", RECONSTRUCT, 0, 36864, "(05000021 05000000*32)*31 02000100",
       "(" SPINE ")*31 " ZERO, "" },
+    { "arrays and lists in turn", CLEAN_SHAPE, 10, 0, "(0600ffff 07008000)*15 0600ffff 02000100",
+      "(03*15 " EMPTY " 03 03 02 03*14)*15 03*15 " ZERO " 03 " ZERO " 00*465", "" },
+    { "lists of a list", CLEAN_SHAPE, 0, 1335, "07008000*31 01000000", "(" LAST ")*31 02 00", "" },
+    { "lists of a list over an integer", CLEAN_SHAPE, 0, 2100, "07008000*31 02000100",
+      "(" LAST ")*31 " ZERO, "" },
+    { "tuples of 33 over an integer", CLEAN_SHAPE, 0, 2751, "(05000021 05000000*32)*31 02000100",
+      "(" SPINE ")*31 " ZERO, "" },
     { "options over a list", WRITE_FRAME, 0, 6, "04000000*30 07004000 05000000",
       "04010000*30 07000001 05000000", "" },
     { "enums of 65 over a list", READ_FRAME, 0, 612, ENUMS, CHOICES, "" },
@@ -289,6 +306,7 @@ static const struct question {
     { "33 options", LOWER, 4, 0, OPTIONS, "", "" },
     { "33 options", WRITE_SHAPE, 4, 0, OPTIONS, "", "" },
     { "33 options", RECONSTRUCT, 4, 0, OPTIONS, "", "" },
+    { "33 options", CLEAN_SHAPE, 4, 0, OPTIONS, "", "" },
     { "33 options", WRITE_FRAME, 4, 0, OPTIONS, "", "" },
     { "33 options", READ_FRAME, 4, 0, OPTIONS, "", "" },
     { "33 options", PART_READ, 4, 0, OPTIONS, "", "" },

@@ -4,7 +4,7 @@ use std::panic::{catch_unwind, AssertUnwindSafe};
 use std::sync::atomic::Ordering;
 
 use crate::case::{Answer, Case};
-use crate::expect::{outcome, Entry, Outcome, ENTRIES, NUMBERS};
+use crate::expect::{outcome, value_before, Entry, Outcome, ENTRIES, NUMBERS};
 use crate::faulty::{FAULT, FAULTS};
 use crate::generate::{random_case, random_room, Scale};
 use crate::library;
@@ -22,19 +22,23 @@ struct Counts {
 }
 
 impl Counts {
+    fn cases(&self) -> u64 {
+        self.by_number.iter().sum::<u64>() + self.differ
+    }
+
     fn line(&self, entry: Entry) -> String {
-        let cases = self.by_number.iter().sum::<u64>() + self.differ;
         let refused = (1..NUMBERS).filter(|&n| self.by_number[n] > 0);
         let refused: Vec<String> = refused.map(|n| format!("{n}:{}", self.by_number[n])).collect();
         let against = if library::has(entry) { "" } else { " (not in the library)" };
-        let (name, accepted, differ) = (entry.name(), self.by_number[0], self.differ);
+        let (name, cases, accepted, differ) = (entry.name(), self.cases(), self.by_number[0], self.differ);
         format!("{name}: {cases} cases, {accepted} accepted, refused {}, {differ} differ{against}", refused.join(" "))
     }
 }
 
 /// What went wrong with a case, if anything.
 pub enum Trouble {
-    /// The published code and the plain one differ, or the two that number a value file or a shape, or one panics.
+    /// The published code and the plain one differ, or the two that number a value file or a shape, or a cleaned shape is
+    /// not what it must be, or one panics.
     Ourselves(String),
     Library(String),
 }
@@ -60,17 +64,42 @@ pub fn expected_outcome(case: &Case) -> Result<Outcome, Trouble> {
     caught("our own", || outcome(case.entry, &case.args)).map_err(Trouble::Ourselves)
 }
 
-/// Compares the library's answer with the expected one.
+/// Compares the library's answer with the expected one. What it has cleaned is then fed back to it.
 pub fn compare_with(case: &Case, expected: &Answer) -> Result<(), Trouble> {
     if !library::has(case.entry) {
         return Ok(());
     }
+    let answer = compare_once(case, expected)?;
+    if case.entry == Entry::CleanShape && answer.number == 0 {
+        for (again, expected) in caught("our own", || fed_back(case, &answer)).map_err(Trouble::Ourselves)? {
+            let text = |trouble: Trouble| format!("what was cleaned, fed back:\n{}{}", again.show(), trouble.text());
+            compare_once(&again, &expected).map_err(|trouble| Trouble::Library(text(trouble)))?;
+        }
+    }
+    Ok(())
+}
+
+/// The library's answer to one call, if it is the expected one.
+fn compare_once(case: &Case, expected: &Answer) -> Result<Answer, Trouble> {
     let answer = caught("library", || library::answer(case)).map_err(Trouble::Library)?;
     if answer != *expected {
         let text = format!("expected {}\nlibrary  {}", expected.show(), answer.show());
         return Err(Trouble::Library(text));
     }
-    Ok(())
+    Ok(answer)
+}
+
+/// What must hold of a shape that the library has cleaned: it reads as the value that the earlier reading gave to the
+/// shape, and stays when it is cleaned again.
+fn fed_back(case: &Case, answer: &Answer) -> [(Case, Answer); 2] {
+    let clean = &answer.lent[..answer.length];
+    let results = [(Entry::Reconstruct, value_before(&case.args)), (Entry::CleanShape, clean.to_vec())];
+    results.map(|(entry, result)| {
+        let args = vec![case.args[0].clone(), clean.to_vec()];
+        let again = Case { entry, args, room: result.len(), ..case.clone() };
+        let expected = again.delivered(Ok(result));
+        (again, expected)
+    })
 }
 
 /// Runs one case with its buffer as it is.
@@ -83,7 +112,8 @@ pub fn run(case: &Case) -> Result<Answer, Trouble> {
 /// The counts of a run.
 #[derive(Default)]
 pub struct Tally {
-    counts: [Counts; 7],
+    counts: [Counts; ENTRIES.len()],
+    cases: u64,
     shown: u64,
 }
 
@@ -92,11 +122,12 @@ impl Tally {
     pub fn run(
         &mut self,
         case: &mut Case,
-        room: impl FnOnce(&Outcome) -> usize,
+        room: impl FnOnce(&Case, &Outcome) -> usize,
         trace: Option<&str>,
     ) -> Option<Outcome> {
+        self.cases += 1;
         let answer = expected_outcome(case).and_then(|outcome| {
-            case.room = room(&outcome);
+            case.room = room(case, &outcome);
             if let Some(file) = trace {
                 std::fs::write(file, case.show()).expect("the trace is written");
             }
@@ -113,29 +144,31 @@ impl Tally {
                 counts.differ += 1;
                 self.shown += 1;
                 if self.shown <= MOST_SHOWN {
-                    report(case, trouble);
+                    report(self.cases, case, trouble);
                 }
                 None
             }
         }
     }
 
-    /// Prints a line for each entry; true if nothing differs.
+    /// Prints a line for each entry that has cases; true if nothing differs.
     pub fn finish(&self) -> bool {
-        for entry in ENTRIES {
-            println!("{}", self.counts[entry as usize - 1].line(entry));
+        for (entry, counts) in ENTRIES.into_iter().zip(&self.counts) {
+            if counts.cases() > 0 {
+                println!("{}", counts.line(entry));
+            }
         }
         self.counts.iter().all(|c| c.differ == 0)
     }
 }
 
-/// Runs random cases; true if nothing differs.
-pub fn compare(seed: u64, count: u64, trace: Option<&str>) -> bool {
+/// Runs random cases of these entries; true if nothing differs.
+pub fn compare(entries: &[Entry], seed: u64, count: u64, trace: Option<&str>) -> bool {
     let mut r = Random::new(seed);
     let mut tally = Tally::default();
     for _ in 0..count {
-        let mut case = random_case(&mut r, Scale::Any);
-        tally.run(&mut case, |outcome| random_room(&mut r, outcome), trace);
+        let mut case = random_case(&mut r, entries, Scale::Any);
+        tally.run(&mut case, |case, outcome| random_room(&mut r, case, outcome), trace);
     }
     tally.finish()
 }
@@ -146,7 +179,7 @@ pub fn try_faults(seed: u64, count: u64) -> bool {
     for (fault, name) in FAULTS.iter().enumerate() {
         println!("FAULT {fault}: {name}");
         FAULT.store(fault, Ordering::Relaxed);
-        let found = !compare(seed, count, None);
+        let found = !compare(&ENTRIES, seed, count, None);
         good &= found == (fault > 0);
     }
     FAULT.store(0, Ordering::Relaxed);
@@ -154,8 +187,8 @@ pub fn try_faults(seed: u64, count: u64) -> bool {
     good
 }
 
-/// Prints a case that differs, as small as it can be made.
-fn report(case: &Case, trouble: Trouble) {
+/// Prints a case that differs, as small as it can be made, after the number of the case in the run.
+fn report(number: u64, case: &Case, trouble: Trouble) {
     let (small, trouble) = shrink(case, trouble);
-    println!("DIFFERS\n{}{}\n", small.show(), trouble.text());
+    println!("DIFFERS at case {number}\n{}{}\n", small.show(), trouble.text());
 }

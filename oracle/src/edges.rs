@@ -2,13 +2,20 @@
 
 use crate::case::Case;
 use crate::expect::Entry::{self, *};
-use crate::expect::Outcome;
+use crate::expect::{Outcome, ENTRIES};
 
 /// A case and its result with this buffer.
 pub struct Edge {
     pub name: &'static str,
     pub case: Case,
     pub expected: Outcome,
+}
+
+/// The cases of some entries: the short ones, and those with long arguments or results.
+pub struct Group {
+    pub entries: &'static [Entry],
+    pub short: Vec<Edge>,
+    pub long: Vec<Edge>,
 }
 
 /// Records of a type file: kind and n.
@@ -69,6 +76,20 @@ impl Edges {
         self.bad(name, WriteShape, &[ty, value], number);
         self.bad(name, WriteFrame, &[ty, value], number);
         self.bad(name, PartEdit, &[ty, &vec![0; zeros], &[], value], number);
+    }
+
+    /// A shape that is cleaned, or refused. A buffer that is shorter than the shape may still be long enough.
+    fn clean(&mut self, name: &'static str, records: &[(u8, u16)], shape: &str, cleaned: Result<&str, u32>) {
+        let args: [&[u8]; 2] = [&ty(records), &digits(shape)];
+        match cleaned.map(digits) {
+            Err(number) => self.bad(name, CleanShape, &args, number),
+            Ok(result) => {
+                self.good(name, CleanShape, &args, &result);
+                if result.len() + 1 < args[1].len() {
+                    self.put(name, CleanShape, &args, args[1].len() - 1, Ok(result));
+                }
+            }
+        }
     }
 }
 
@@ -161,9 +182,9 @@ fn along_the_edges(e: &mut Edges) {
 }
 
 /// The smallest inputs of the type rows, and rows that meet.
-fn type_rows(e: &mut Edges) {
+fn bad_types() -> Vec<(&'static str, Vec<u8>, u32)> {
     let deep = |last: &[u8]| [ty(&[(4, 0); 32]), last.to_vec()].concat();
-    let types: [(&'static str, Vec<u8>, u32); 29] = [
+    vec![
         ("empty", vec![], 1),
         ("three bytes", vec![1, 0, 0], 1),
         ("five bytes", vec![1, 0, 0, 0, 0], 1),
@@ -193,8 +214,11 @@ fn type_rows(e: &mut Edges) {
         ("Never in an array of 0", ty(&[(6, 0), (0, 0)]), 6),
         ("too large in an array of 0", ty(&[(6, 0), (6, 32_769), UNIT]), 7),
         ("too large and Never", ty(&[(5, 2), (6, 32_769), UNIT, (0, 0)]), 6),
-    ];
-    for (name, file, number) in types {
+    ]
+}
+
+fn type_rows(e: &mut Edges) {
+    for (name, file, number) in bad_types() {
         e.bad(name, Lower, &[&file], number);
         for entry in [WriteShape, WriteFrame, ReadFrame] {
             e.bad(name, entry, &[&file, &[]], number);
@@ -210,10 +234,12 @@ fn type_rows(e: &mut Edges) {
     e.good("array of 0", Lower, &[&ty(&[(6, 0), (1, 0)])], &digits("0"));
 }
 
+const NOT_ONE_TREE: [&str; 7] = ["", "4", "00", "3", "1", "30", "3000"];
+
 /// The smallest inputs of the other rows, and rows that meet.
 fn other_rows(e: &mut Edges) {
     let u4 = ty(&[(2, 4)]);
-    for shape in ["", "4", "00", "3", "1", "30", "3000"] {
+    for shape in NOT_ONE_TREE {
         e.bad("not one tree", Reconstruct, &[&u4, &digits(shape)], 9);
     }
     e.bad("u2 with 3100", Reconstruct, &[&ty(&[(2, 2)]), &digits("3100")], 10);
@@ -380,126 +406,124 @@ fn faults_of_kinds(e: &mut Edges) {
 
 const NOTHING: Record = (5, 0, 0, 0);
 
-/// Units at the spots of a shape, and a shape that has none.
+/// Units at the spots of a shape, and shapes that have none: type, shape, value.
+const WITH_UNITS: [(&str, &[(u8, u16)], &str, &[Record]); 31] = [
+    ("()", &[UNIT], "0", &[NOTHING]),
+    ("an array of 0", &[(6, 0), (1, 0)], "0", &[(6, 0, 0, 0)]),
+    ("an array of 0 of Never", &[(6, 0), (0, 0)], "0", &[(6, 0, 0, 0)]),
+    ("the one variant", &[(8, 1), (9, 0)], "0", &[(8, 0, 0, 0)]),
+    ("variant 0 of two", &[(8, 2), (9, 0), (9, 0)], "10", &[(8, 0, 0, 0)]),
+    ("variant 1 of two", &[(8, 2), (9, 0), (9, 0)], "20", &[(8, 0, 1, 0)]),
+    ("a payload of one ()", &[(8, 1), (9, 1), UNIT], "0", &[(8, 0, 0, 0), NOTHING]),
+    ("a payload of two ()", &[(8, 1), (9, 2), UNIT, UNIT], "300", &[(8, 0, 0, 0), NOTHING, NOTHING]),
+    ("none", &[(4, 0), UNIT], "10", &[(4, 0, 0, 0)]),
+    ("some ()", &[(4, 0), UNIT], "20", &[(4, 1, 0, 0), NOTHING]),
+    ("left ()", &[(3, 0), UNIT, (1, 0)], "10", &[(3, 0, 0, 0), NOTHING]),
+    ("left () not taken", &[(3, 0), UNIT, (1, 0)], "220", &[(3, 1, 0, 0), (1, 1, 0, 0)]),
+    ("right ()", &[(3, 0), (1, 0), UNIT], "20", &[(3, 1, 0, 0), NOTHING]),
+    ("right () not taken", &[(3, 0), (1, 0), UNIT], "120", &[(3, 0, 0, 0), (1, 1, 0, 0)]),
+    ("no elements of ()", &[(7, 4), UNIT], "31010", &[(7, 0, 0, 0)]),
+    ("an element of ()", &[(7, 4), UNIT], "31020", &[(7, 0, 1, 0), NOTHING]),
+    ("two elements of ()", &[(7, 4), UNIT], "3230010", &[(7, 0, 2, 0), NOTHING, NOTHING]),
+    ("three elements of ()", &[(7, 4), UNIT], "3230020", &[(7, 0, 3, 0), NOTHING, NOTHING, NOTHING]),
+    ("an element of an array of 0", &[(7, 2), (6, 0), (1, 0)], "20", &[(7, 0, 1, 0), (6, 0, 0, 0)]),
+    ("an array of one ()", &[(6, 1), UNIT], "0", &[(6, 0, 1, 0), NOTHING]),
+    ("an array of two ()", &[(6, 2), UNIT], "300", &[(6, 0, 2, 0), NOTHING, NOTHING]),
+    ("a tuple of one ()", &[(5, 1), UNIT], "0", &[(5, 0, 1, 0), NOTHING]),
+    ("a tuple of two ()", &[(5, 2), UNIT, UNIT], "300", &[(5, 0, 2, 0), NOTHING, NOTHING]),
+    ("() and a Boolean", &[(5, 2), UNIT, (1, 0)], "3010", &[(5, 0, 2, 0), NOTHING, (1, 0, 0, 0)]),
+    ("a Boolean and ()", &[(5, 2), (1, 0), UNIT], "3100", &[(5, 0, 2, 0), (1, 0, 0, 0), NOTHING]),
+    ("() and a u2", &[(5, 2), UNIT, (2, 2)], "3031020", &[(5, 0, 2, 0), NOTHING, (2, 0, 2, 1)]),
+    ("() beside a Never", &[(5, 2), UNIT, (4, 0), (0, 0)], "3010", &[(5, 0, 2, 0), NOTHING, (4, 0, 0, 0)]),
+    ("() and a large one", &[(5, 2), UNIT, (4, 0), (6, 32_769), UNIT], "3010", &[(5, 0, 2, 0), NOTHING, (4, 0, 0, 0)]),
+    ("some large array of 0", &[(4, 0), (6, 0), (6, 32_769), UNIT], "20", &[(4, 1, 0, 0), (6, 0, 0, 0)]),
+    ("true", &[(1, 0)], "20", &[(1, 1, 0, 0)]),
+    ("a u1", &[(2, 1)], "10", &[(2, 0, 1, 0)]),
+];
+
+/// Anything else at the spots of a shape, with the rows before and behind 20: type, shape, and the cleaned shape or the
+/// number that refuses.
+const WITHOUT_UNITS: [(&str, &[(u8, u16)], &str, Result<&str, u32>); 69] = [
+    ("a left as ()", &[UNIT], "10", Ok("0")),
+    ("a right as ()", &[UNIT], "20", Ok("0")),
+    ("a larger tree as ()", &[UNIT], "3102300", Ok("0")),
+    ("a pair as an array of 0", &[(6, 0), (1, 0)], "300", Ok("0")),
+    ("a left as an array of 0", &[(6, 0), (1, 0)], "10", Ok("0")),
+    ("a Boolean as an array of 0", &[(6, 0), (1, 0)], "20", Ok("0")),
+    ("an array of 0 of Never", &[(6, 0), (0, 0)], "10", Ok("0")),
+    ("variant 0 of three, a pair", &VARIANTS, "1300", Ok("10")),
+    ("variant 0 of three, a left", &VARIANTS, "110", Ok("10")),
+    ("the one variant, a pair", &[(8, 1), (9, 0)], "300", Ok("0")),
+    ("the one variant, a left", &[(8, 1), (9, 0)], "10", Ok("0")),
+    ("variant 0 of two", &[(8, 2), (9, 0), (9, 0)], "110", Ok("10")),
+    ("variant 1 of two", &[(8, 2), (9, 0), (9, 0)], "210", Ok("20")),
+    ("a payload of one ()", &[(8, 1), (9, 1), UNIT], "10", Ok("0")),
+    ("a payload of one array of 0", &[(8, 1), (9, 1), (6, 0), (1, 0)], "10", Ok("0")),
+    ("a payload of two (), the first", &[(8, 1), (9, 2), UNIT, UNIT], "3100", Ok("300")),
+    ("a payload of two (), the second", &[(8, 1), (9, 2), UNIT, UNIT], "3010", Ok("300")),
+    ("a payload of two (), one tree", &[(8, 1), (9, 2), UNIT, UNIT], "0", Err(10)),
+    ("some (), a left", &[(4, 0), UNIT], "210", Ok("20")),
+    ("some (), a pair", &[(4, 0), UNIT], "2300", Ok("20")),
+    ("none of (), a left", &[(4, 0), UNIT], "110", Err(10)),
+    ("none of (), a pair", &[(4, 0), UNIT], "1300", Err(10)),
+    ("left ()", &[(3, 0), UNIT, (1, 0)], "110", Ok("10")),
+    ("left () not taken", &[(3, 0), UNIT, (1, 0)], "2300", Err(10)),
+    ("right ()", &[(3, 0), (1, 0), UNIT], "210", Ok("20")),
+    ("right () not taken", &[(3, 0), (1, 0), UNIT], "1300", Err(10)),
+    ("an element of (), bound 2", &[(7, 2), UNIT], "210", Ok("20")),
+    ("no elements, bound 2", &[(7, 2), UNIT], "110", Err(10)),
+    ("an element of ()", &[(7, 4), UNIT], "310210", Ok("31020")),
+    ("the first of two elements", &[(7, 4), UNIT], "32320010", Ok("3230010")),
+    ("the second of two elements", &[(7, 4), UNIT], "32302010", Ok("3230010")),
+    ("the third of three elements", &[(7, 4), UNIT], "32300210", Ok("3230020")),
+    ("an empty block of two", &[(7, 4), UNIT], "311020", Err(10)),
+    ("an empty block of one", &[(7, 4), UNIT], "32300110", Err(10)),
+    ("an element, then an empty block", &[(7, 4), UNIT], "323200110", Err(10)),
+    ("an array of 0 as an element", &[(7, 2), (6, 0), (1, 0)], "220", Ok("20")),
+    ("a variant as an element", &[(7, 2), (8, 2), (9, 0), (9, 0)], "2110", Ok("210")),
+    ("an array of one ()", &[(6, 1), UNIT], "10", Ok("0")),
+    ("an array of two (), the first", &[(6, 2), UNIT], "3100", Ok("300")),
+    ("an array of two (), the second", &[(6, 2), UNIT], "3010", Ok("300")),
+    ("an array of three (), the last", &[(6, 3), UNIT], "303010", Ok("30300")),
+    ("a tuple of one ()", &[(5, 1), UNIT], "300", Ok("0")),
+    ("a tuple of two (), the first", &[(5, 2), UNIT, UNIT], "33000", Ok("300")),
+    ("a tuple of two (), the second", &[(5, 2), UNIT, UNIT], "30300", Ok("300")),
+    ("a tuple of two (), both", &[(5, 2), UNIT, UNIT], "31020", Ok("300")),
+    ("a tuple of two (), one tree", &[(5, 2), UNIT, UNIT], "10", Err(10)),
+    ("a tuple of (), then an array of 0", &[(5, 2), UNIT, (6, 0), (1, 0)], "3010", Ok("300")),
+    ("() and a Boolean", &[(5, 2), UNIT, (1, 0)], "31010", Ok("3010")),
+    ("a Boolean and ()", &[(5, 2), (1, 0), UNIT], "31010", Ok("3100")),
+    ("() and no Boolean", &[(5, 2), UNIT, (1, 0)], "3100", Err(10)),
+    ("no Boolean and ()", &[(5, 2), (1, 0), UNIT], "3010", Err(10)),
+    ("() and no u2", &[(5, 2), UNIT, (2, 2)], "310310110", Err(10)),
+    ("no u2 and ()", &[(5, 2), (2, 2), UNIT], "331011010", Err(10)),
+    ("(), (), no Boolean", &[(5, 3), UNIT, UNIT, (1, 0)], "3103100", Err(10)),
+    ("(), no Boolean, ()", &[(5, 3), UNIT, (1, 0), UNIT], "3103010", Err(10)),
+    ("() beside a Never", &[(5, 2), UNIT, (4, 0), (0, 0)], "31010", Ok("3010")),
+    ("() and a Never", &[(5, 2), UNIT, (4, 0), (0, 0)], "31020", Err(10)),
+    ("a Never and ()", &[(5, 2), (4, 0), (0, 0), UNIT], "32010", Err(10)),
+    ("() and a large one", &[(5, 2), UNIT, (4, 0), (6, 32_769), UNIT], "31010", Ok("3010")),
+    ("some large array of 0", &[(4, 0), (6, 0), (6, 32_769), UNIT], "210", Ok("20")),
+    ("false, a left", &[(1, 0)], "110", Err(10)),
+    ("a u1, a pair", &[(2, 1)], "1300", Err(10)),
+    ("a u2, a left", &[(2, 2)], "310110", Err(10)),
+    ("one left over", &[UNIT], "100", Err(9)),
+    ("a pair and one left over", &[UNIT], "3000", Err(9)),
+    ("one missing", &[UNIT], "310", Err(9)),
+    ("a byte above 3", &[UNIT], "14", Err(9)),
+    ("a type left over", &[UNIT, UNIT], "10", Err(5)),
+    ("a tuple's part missing", &[(5, 1)], "10", Err(5)),
+];
+
 fn spots_with_units(e: &mut Edges) {
-    let shapes: [(&'static str, &[(u8, u16)], &str, &[Record]); 31] = [
-        ("()", &[UNIT], "0", &[NOTHING]),
-        ("an array of 0", &[(6, 0), (1, 0)], "0", &[(6, 0, 0, 0)]),
-        ("an array of 0 of Never", &[(6, 0), (0, 0)], "0", &[(6, 0, 0, 0)]),
-        ("the one variant", &[(8, 1), (9, 0)], "0", &[(8, 0, 0, 0)]),
-        ("variant 0 of two", &[(8, 2), (9, 0), (9, 0)], "10", &[(8, 0, 0, 0)]),
-        ("variant 1 of two", &[(8, 2), (9, 0), (9, 0)], "20", &[(8, 0, 1, 0)]),
-        ("a payload of one ()", &[(8, 1), (9, 1), UNIT], "0", &[(8, 0, 0, 0), NOTHING]),
-        ("a payload of two ()", &[(8, 1), (9, 2), UNIT, UNIT], "300", &[(8, 0, 0, 0), NOTHING, NOTHING]),
-        ("none", &[(4, 0), UNIT], "10", &[(4, 0, 0, 0)]),
-        ("some ()", &[(4, 0), UNIT], "20", &[(4, 1, 0, 0), NOTHING]),
-        ("left ()", &[(3, 0), UNIT, (1, 0)], "10", &[(3, 0, 0, 0), NOTHING]),
-        ("left () not taken", &[(3, 0), UNIT, (1, 0)], "220", &[(3, 1, 0, 0), (1, 1, 0, 0)]),
-        ("right ()", &[(3, 0), (1, 0), UNIT], "20", &[(3, 1, 0, 0), NOTHING]),
-        ("right () not taken", &[(3, 0), (1, 0), UNIT], "120", &[(3, 0, 0, 0), (1, 1, 0, 0)]),
-        ("no elements of ()", &[(7, 4), UNIT], "31010", &[(7, 0, 0, 0)]),
-        ("an element of ()", &[(7, 4), UNIT], "31020", &[(7, 0, 1, 0), NOTHING]),
-        ("two elements of ()", &[(7, 4), UNIT], "3230010", &[(7, 0, 2, 0), NOTHING, NOTHING]),
-        ("three elements of ()", &[(7, 4), UNIT], "3230020", &[(7, 0, 3, 0), NOTHING, NOTHING, NOTHING]),
-        ("an element of an array of 0", &[(7, 2), (6, 0), (1, 0)], "20", &[(7, 0, 1, 0), (6, 0, 0, 0)]),
-        ("an array of one ()", &[(6, 1), UNIT], "0", &[(6, 0, 1, 0), NOTHING]),
-        ("an array of two ()", &[(6, 2), UNIT], "300", &[(6, 0, 2, 0), NOTHING, NOTHING]),
-        ("a tuple of one ()", &[(5, 1), UNIT], "0", &[(5, 0, 1, 0), NOTHING]),
-        ("a tuple of two ()", &[(5, 2), UNIT, UNIT], "300", &[(5, 0, 2, 0), NOTHING, NOTHING]),
-        ("() and a Boolean", &[(5, 2), UNIT, (1, 0)], "3010", &[(5, 0, 2, 0), NOTHING, (1, 0, 0, 0)]),
-        ("a Boolean and ()", &[(5, 2), (1, 0), UNIT], "3100", &[(5, 0, 2, 0), (1, 0, 0, 0), NOTHING]),
-        ("() and a u2", &[(5, 2), UNIT, (2, 2)], "3031020", &[(5, 0, 2, 0), NOTHING, (2, 0, 2, 1)]),
-        ("() beside a Never", &[(5, 2), UNIT, (4, 0), (0, 0)], "3010", &[(5, 0, 2, 0), NOTHING, (4, 0, 0, 0)]),
-        (
-            "() and a large one",
-            &[(5, 2), UNIT, (4, 0), (6, 32_769), UNIT],
-            "3010",
-            &[(5, 0, 2, 0), NOTHING, (4, 0, 0, 0)],
-        ),
-        ("some large array of 0", &[(4, 0), (6, 0), (6, 32_769), UNIT], "20", &[(4, 1, 0, 0), (6, 0, 0, 0)]),
-        ("true", &[(1, 0)], "20", &[(1, 1, 0, 0)]),
-        ("a u1", &[(2, 1)], "10", &[(2, 0, 1, 0)]),
-    ];
-    for (name, records, shape, value) in shapes {
+    for (name, records, shape, value) in WITH_UNITS {
         e.good(name, Reconstruct, &[&ty(records), &digits(shape)], &val(value));
     }
 }
 
-/// Anything else at the spots of a shape, with the rows before and behind 20.
 fn spots_without_units(e: &mut Edges) {
-    let shapes: [(&'static str, &[(u8, u16)], &str, u32); 69] = [
-        ("a left as ()", &[UNIT], "10", 20),
-        ("a right as ()", &[UNIT], "20", 20),
-        ("a larger tree as ()", &[UNIT], "3102300", 20),
-        ("a pair as an array of 0", &[(6, 0), (1, 0)], "300", 20),
-        ("a left as an array of 0", &[(6, 0), (1, 0)], "10", 20),
-        ("a Boolean as an array of 0", &[(6, 0), (1, 0)], "20", 20),
-        ("an array of 0 of Never", &[(6, 0), (0, 0)], "10", 20),
-        ("variant 0 of three, a pair", &VARIANTS, "1300", 20),
-        ("variant 0 of three, a left", &VARIANTS, "110", 20),
-        ("the one variant, a pair", &[(8, 1), (9, 0)], "300", 20),
-        ("the one variant, a left", &[(8, 1), (9, 0)], "10", 20),
-        ("variant 0 of two", &[(8, 2), (9, 0), (9, 0)], "110", 20),
-        ("variant 1 of two", &[(8, 2), (9, 0), (9, 0)], "210", 20),
-        ("a payload of one ()", &[(8, 1), (9, 1), UNIT], "10", 20),
-        ("a payload of one array of 0", &[(8, 1), (9, 1), (6, 0), (1, 0)], "10", 20),
-        ("a payload of two (), the first", &[(8, 1), (9, 2), UNIT, UNIT], "3100", 20),
-        ("a payload of two (), the second", &[(8, 1), (9, 2), UNIT, UNIT], "3010", 20),
-        ("a payload of two (), one tree", &[(8, 1), (9, 2), UNIT, UNIT], "0", 10),
-        ("some (), a left", &[(4, 0), UNIT], "210", 20),
-        ("some (), a pair", &[(4, 0), UNIT], "2300", 20),
-        ("none of (), a left", &[(4, 0), UNIT], "110", 10),
-        ("none of (), a pair", &[(4, 0), UNIT], "1300", 10),
-        ("left ()", &[(3, 0), UNIT, (1, 0)], "110", 20),
-        ("left () not taken", &[(3, 0), UNIT, (1, 0)], "2300", 10),
-        ("right ()", &[(3, 0), (1, 0), UNIT], "210", 20),
-        ("right () not taken", &[(3, 0), (1, 0), UNIT], "1300", 10),
-        ("an element of (), bound 2", &[(7, 2), UNIT], "210", 20),
-        ("no elements, bound 2", &[(7, 2), UNIT], "110", 10),
-        ("an element of ()", &[(7, 4), UNIT], "310210", 20),
-        ("the first of two elements", &[(7, 4), UNIT], "32320010", 20),
-        ("the second of two elements", &[(7, 4), UNIT], "32302010", 20),
-        ("the third of three elements", &[(7, 4), UNIT], "32300210", 20),
-        ("an empty block of two", &[(7, 4), UNIT], "311020", 10),
-        ("an empty block of one", &[(7, 4), UNIT], "32300110", 10),
-        ("an element, then an empty block", &[(7, 4), UNIT], "323200110", 10),
-        ("an array of 0 as an element", &[(7, 2), (6, 0), (1, 0)], "220", 20),
-        ("a variant as an element", &[(7, 2), (8, 2), (9, 0), (9, 0)], "2110", 20),
-        ("an array of one ()", &[(6, 1), UNIT], "10", 20),
-        ("an array of two (), the first", &[(6, 2), UNIT], "3100", 20),
-        ("an array of two (), the second", &[(6, 2), UNIT], "3010", 20),
-        ("an array of three (), the last", &[(6, 3), UNIT], "303010", 20),
-        ("a tuple of one ()", &[(5, 1), UNIT], "300", 20),
-        ("a tuple of two (), the first", &[(5, 2), UNIT, UNIT], "33000", 20),
-        ("a tuple of two (), the second", &[(5, 2), UNIT, UNIT], "30300", 20),
-        ("a tuple of two (), both", &[(5, 2), UNIT, UNIT], "31020", 20),
-        ("a tuple of two (), one tree", &[(5, 2), UNIT, UNIT], "10", 10),
-        ("a tuple of (), then an array of 0", &[(5, 2), UNIT, (6, 0), (1, 0)], "3010", 20),
-        ("() and a Boolean", &[(5, 2), UNIT, (1, 0)], "31010", 20),
-        ("a Boolean and ()", &[(5, 2), (1, 0), UNIT], "31010", 20),
-        ("() and no Boolean", &[(5, 2), UNIT, (1, 0)], "3100", 10),
-        ("no Boolean and ()", &[(5, 2), (1, 0), UNIT], "3010", 10),
-        ("() and no u2", &[(5, 2), UNIT, (2, 2)], "310310110", 10),
-        ("no u2 and ()", &[(5, 2), (2, 2), UNIT], "331011010", 10),
-        ("(), (), no Boolean", &[(5, 3), UNIT, UNIT, (1, 0)], "3103100", 10),
-        ("(), no Boolean, ()", &[(5, 3), UNIT, (1, 0), UNIT], "3103010", 10),
-        ("() beside a Never", &[(5, 2), UNIT, (4, 0), (0, 0)], "31010", 20),
-        ("() and a Never", &[(5, 2), UNIT, (4, 0), (0, 0)], "31020", 10),
-        ("a Never and ()", &[(5, 2), (4, 0), (0, 0), UNIT], "32010", 10),
-        ("() and a large one", &[(5, 2), UNIT, (4, 0), (6, 32_769), UNIT], "31010", 20),
-        ("some large array of 0", &[(4, 0), (6, 0), (6, 32_769), UNIT], "210", 20),
-        ("false, a left", &[(1, 0)], "110", 10),
-        ("a u1, a pair", &[(2, 1)], "1300", 10),
-        ("a u2, a left", &[(2, 2)], "310110", 10),
-        ("one left over", &[UNIT], "100", 9),
-        ("a pair and one left over", &[UNIT], "3000", 9),
-        ("one missing", &[UNIT], "310", 9),
-        ("a byte above 3", &[UNIT], "14", 9),
-        ("a type left over", &[UNIT, UNIT], "10", 5),
-        ("a tuple's part missing", &[(5, 1)], "10", 5),
-    ];
-    for (name, records, shape, number) in shapes {
-        e.bad(name, Reconstruct, &[&ty(records), &digits(shape)], number);
+    for (name, records, shape, cleaned) in WITHOUT_UNITS {
+        e.bad(name, Reconstruct, &[&ty(records), &digits(shape)], cleaned.err().unwrap_or(20));
     }
     for room in [0, 35, 36] {
         e.put("a left as (), its value or less", Reconstruct, &[&ty(&[UNIT]), &digits("10")], room, Err(20));
@@ -509,6 +533,102 @@ fn spots_without_units(e: &mut Edges) {
         e.put("() and a Boolean, its value or less", Reconstruct, &[&two, &digits("31010")], room, Err(20));
         e.put("() and no Boolean, its value or less", Reconstruct, &[&two, &digits("3100")], room, Err(10));
     }
+}
+
+/// More shapes to clean: trees at several spots, at some levels, and that look like what is read around them.
+const CLEANED: [(&str, &[(u8, u16)], &str, Result<&str, u32>); 30] = [
+    ("trees around a u1", &[(5, 3), UNIT, (2, 1), UNIT], "3 3102300 3 20 23100", Ok("3 0 3 20 0")),
+    ("trees around no u1", &[(5, 3), UNIT, (2, 1), UNIT], "3 3102300 3 210 23100", Err(10)),
+    ("a tree like the part behind it", &[(5, 2), UNIT, (5, 2), (1, 0), (1, 0)], "3 31020 31020", Ok("3 0 31020")),
+    ("a tree like the part before it", &[(5, 2), (5, 2), (1, 0), (1, 0), UNIT], "3 31020 31020", Ok("3 31020 0")),
+    ("a tree like the whole", &[(5, 2), UNIT, (1, 0)], "3 3010 10", Ok("3 0 10")),
+    ("a pair of pairs", &[(5, 2), UNIT, UNIT], "3 300 300", Ok("300")),
+    ("a pair in a pair", &[(5, 2), UNIT, UNIT], "3 33000 0", Ok("300")),
+    ("trees in tuples in a tuple", &[(5, 2), (5, 2), UNIT, UNIT, (5, 1), UNIT], "33 10 20 300", Ok("33 0 0 0")),
+    ("trees in an array of tuples", &[(6, 2), (5, 2), UNIT, (1, 0)], "3 3 10 20 3 300 10", Ok("3 3 0 20 3 0 10")),
+    ("a u2 before a tree", &[(5, 2), (2, 2), (6, 0), (0, 0)], "3 31020 1110", Ok("3 31020 0")),
+    ("some of some of some", &[(4, 0), (4, 0), (4, 0), UNIT], "222 300", Ok("222 0")),
+    ("some of none", &[(4, 0), (4, 0), UNIT], "2 10", Ok("2 10")),
+    ("some of none, a left", &[(4, 0), (4, 0), UNIT], "2 110", Err(10)),
+    ("left of left", &[(3, 0), (3, 0), UNIT, (1, 0), (6, 0), (1, 0)], "11 20", Ok("11 0")),
+    ("right of left", &[(3, 0), (3, 0), UNIT, (1, 0), (6, 0), (1, 0)], "12 20", Ok("12 20")),
+    ("right of left, no Boolean", &[(3, 0), (3, 0), UNIT, (1, 0), (6, 0), (1, 0)], "12 300", Err(10)),
+    ("right", &[(3, 0), (3, 0), UNIT, (1, 0), (6, 0), (1, 0)], "2 3200", Ok("2 0")),
+    ("an array of Options", &[(6, 3), (4, 0), (6, 0), (2, 8)], "3 2300 3 10 220", Ok("3 20 3 10 20")),
+    ("the same, a tree under the none", &[(6, 3), (4, 0), (6, 0), (2, 8)], "3 2300 3 110 220", Err(10)),
+    ("the first of three variants", &[(8, 3), (9, 0), (9, 1), UNIT, (9, 2), UNIT, (1, 0)], "1 20", Ok("1 0")),
+    ("the second", &[(8, 3), (9, 0), (9, 1), UNIT, (9, 2), UNIT, (1, 0)], "21 300", Ok("21 0")),
+    ("the third", &[(8, 3), (9, 0), (9, 1), UNIT, (9, 2), UNIT, (1, 0)], "22 3 10 20", Ok("22 3 0 20")),
+    ("the third, no Boolean", &[(8, 3), (9, 0), (9, 1), UNIT, (9, 2), UNIT, (1, 0)], "22 3 10 0", Err(10)),
+    ("a list of variants", &[(7, 4), (8, 2), (9, 0), (9, 1), (2, 1)], "3 23 1300 220 2110", Ok("3 23 10 220 210")),
+    ("a list of variants, no u1", &[(7, 4), (8, 2), (9, 0), (9, 1), (2, 1)], "3 23 1300 2210 2110", Err(10)),
+    ("seven trees", &[(7, 8), UNIT], "3 23 31010 31010 3 231010 210", Ok("3 23 300 300 3 2300 20")),
+    ("seven trees, cut", &[(7, 8), UNIT], "3 23 31010 31010 3 231010 21", Err(9)),
+    ("none of Never", &[(4, 0), (0, 0)], "10", Ok("10")),
+    ("none of Never, a left", &[(4, 0), (0, 0)], "110", Err(10)),
+    ("some Never", &[(4, 0), (0, 0)], "20", Err(10)),
+];
+
+/// What is cleaned, with all rows before 17.
+fn cleaned_shapes(e: &mut Edges) {
+    for (name, records, shape, _) in WITH_UNITS {
+        let same = digits(shape);
+        e.put(name, CleanShape, &[&ty(records), &same], same.len(), Ok(same.clone()));
+    }
+    for (name, records, shape, cleaned) in WITHOUT_UNITS.into_iter().chain(CLEANED) {
+        e.clean(name, records, shape, cleaned);
+    }
+    for shape in NOT_ONE_TREE {
+        e.clean("not one tree", &[(2, 4)], shape, Err(9));
+    }
+    e.clean("u2 with 3100", &[(2, 2)], "3100", Err(10));
+    e.clean("Never", &[(0, 0)], "0", Err(10));
+    let options = |n: usize| [vec![(4, 0); n], vec![UNIT]].concat();
+    e.clean("31 Options", &options(31), &format!("{}3200", "2".repeat(31)), Ok(&format!("{}0", "2".repeat(31))));
+    e.clean("32 Options", &options(32), &format!("{}3200", "2".repeat(32)), Err(4));
+    for (name, file, number) in bad_types() {
+        // A type that does not lower is no matter; but no bytes are no shape.
+        e.bad(name, CleanShape, &[&file, &[]], if number < 6 { number } else { 9 });
+    }
+    let rooms = |room, least| if room < least { Err(17) } else { Ok(()) };
+    let two = ty(&[(5, 2), UNIT, (1, 0)]);
+    for room in 0..9 {
+        let one = rooms(room, 1).map(|()| digits("0"));
+        e.put("a larger tree as ()", CleanShape, &[&ty(&[UNIT]), &digits("3102300")], room, one);
+        let four = rooms(room, 4).map(|()| digits("3010"));
+        e.put("() and a Boolean", CleanShape, &[&two, &digits("330010")], room, four);
+    }
+    for room in [0, 3, 4] {
+        e.put("() and no Boolean", CleanShape, &[&two, &digits("3100")], room, Err(10));
+        e.put("() and one left over", CleanShape, &[&two, &digits("310100")], room, Err(9));
+    }
+}
+
+/// Long arguments; no result is as long.
+fn long_cleaned_shapes(e: &mut Edges) {
+    e.bad("1,025 records", CleanShape, &[&ty(&[(1, 0); 1_025]), &[]], 2);
+    e.put("65,536 records under ()", CleanShape, &[&ty(&[UNIT]), &lefts(65_536)], 1, Ok(digits("0")));
+    e.bad("65,537 records", CleanShape, &[&ty(&[UNIT]), &lefts(65_537)], 8);
+    let array = ty(&[(6, 16_384), UNIT]);
+    let units = full("3", 14, "0");
+    e.put("an array of 16,384 units", CleanShape, &[&array, &units], units.len(), Ok(units.clone()));
+    // 1,024 zeros, and an empty tuple with all that a shape may have besides.
+    let zeros = full("3", 10, "10");
+    let long_type = ty(&[(5, 2), (6, 4), (2, 256), UNIT]);
+    let long = [digits("3"), zeros.clone(), lefts(65_535 - zeros.len())].concat();
+    let result = [digits("3"), zeros, digits("0")].concat();
+    e.put("65,536 records", CleanShape, &[&long_type, &long], result.len(), Ok(result.clone()));
+    e.put("65,536 records, one byte short", CleanShape, &[&long_type, &long], result.len() - 1, Err(17));
+}
+
+/// A chain of n records.
+fn lefts(n: usize) -> Vec<u8> {
+    [vec![1; n - 1], vec![0]].concat()
+}
+
+/// A full tree: so many levels of forks above equal leaves.
+fn full(fork: &str, levels: usize, leaf: &str) -> Vec<u8> {
+    (0..levels).fold(digits(leaf), |tree, _| [digits(fork), tree.clone(), tree].concat())
 }
 
 /// Long arguments or results; they stand at the end of the recorded file.
@@ -523,13 +643,8 @@ fn long_ones(e: &mut Edges) {
     e.bad("1,025 records, the first bad", Reconstruct, &[&ty(&[(10, 0); 1_025]), &[]], 2);
     let many = [vec![(5, 1_023)], vec![UNIT; 1_023]].concat();
     e.bad("1,024 records", WriteShape, &[&ty(&many), &val(&[NOTHING])], 16);
-    let lefts = |n: usize| [vec![1; n - 1], vec![0]].concat();
     e.bad("65,536 records under ()", Reconstruct, &[&ty(&[UNIT]), &lefts(65_536)], 20);
     e.bad("65,537 records", Reconstruct, &[&ty(&[UNIT]), &lefts(65_537)], 8);
-    // A full tree: so many levels of forks above equal leaves.
-    let full = |fork: &str, levels: usize, leaf: &str| {
-        (0..levels).fold(digits(leaf), |tree, _| [digits(fork), tree.clone(), tree].concat())
-    };
     // 85 integers of 256 zeros hang as 1, 4, 16 and 64 of them; then 64 zeros, and some of 32 units.
     let bits = |levels| full("3", levels, "10");
     let integers = [digits("333"), bits(8), bits(10), bits(12), bits(14)].concat();
@@ -549,17 +664,25 @@ fn long_ones(e: &mut Edges) {
     e.put("an array of 32,768 units, one byte short", Lower, &[&array], 65_534, Err(17));
 }
 
-/// The short ones, then the long ones.
-pub fn edges() -> (Vec<Edge>, Vec<Edge>) {
-    let mut short = Edges(vec![]);
-    along_the_edges(&mut short);
-    type_rows(&mut short);
-    other_rows(&mut short);
-    faults_of_a_pair(&mut short);
-    faults_of_kinds(&mut short);
-    spots_with_units(&mut short);
-    spots_without_units(&mut short);
-    let mut long = Edges(vec![]);
-    long_ones(&mut long);
-    (short.0, long.0)
+/// The cases of the first seven entries, then those of the one that came later, so that the first stay as they are.
+pub fn edges() -> [Group; 2] {
+    let (entries, later) = ENTRIES.split_at(7);
+    let of = |parts: &[fn(&mut Edges)]| {
+        let mut all = Edges(vec![]);
+        parts.iter().for_each(|part| part(&mut all));
+        all.0
+    };
+    let short = of(&[
+        along_the_edges,
+        type_rows,
+        other_rows,
+        faults_of_a_pair,
+        faults_of_kinds,
+        spots_with_units,
+        spots_without_units,
+    ]);
+    [
+        Group { entries, short, long: of(&[long_ones]) },
+        Group { entries: later, short: of(&[cleaned_shapes]), long: of(&[long_cleaned_shapes]) },
+    ]
 }

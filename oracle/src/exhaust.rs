@@ -47,14 +47,16 @@ struct Run {
 }
 
 impl Run {
-    /// Runs a case with an exact buffer; every third one is a byte short, every fifth has room.
+    /// Runs a case with an exact buffer; every third one is a byte short, every fifth has room. Every fourth one that
+    /// cleans is as long as the shape.
     fn case(&mut self, entry: Entry, args: &[&[u8]]) -> Option<Outcome> {
         self.count += 1;
         let count = self.count;
         let args = args.iter().map(|a| a.to_vec()).collect();
         let mut case = Case { entry, args, room: 0, fill: count as u8, plain_fill: false };
-        let room = |outcome: &Outcome| match outcome {
+        let room = |case: &Case, outcome: &Outcome| match outcome {
             Ok(result) if count % 3 == 0 => result.len().saturating_sub(1),
+            Ok(_) if case.entry == Entry::CleanShape && count % 4 == 0 => case.args[1].len(),
             Ok(result) if count % 5 == 0 => result.len() + 3,
             Ok(result) => result.len(),
             Err(_) => count % 7,
@@ -69,6 +71,7 @@ impl Run {
             if let Some(Ok(value)) = self.case(Entry::Reconstruct, &[file, shape]) {
                 values.insert(value);
             }
+            self.case(Entry::CleanShape, &[file, shape]);
         }
         if check_lowering(ty).is_err() {
             return;

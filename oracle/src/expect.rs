@@ -4,11 +4,11 @@ use crate::first_fault;
 use crate::frames::{self, Lowered};
 use crate::paths::{self, follow, Part};
 use crate::rust;
-use crate::spots;
+use crate::spots::{self, Met};
 use crate::types::{self, all_small, check_lowering, lowering_work, read_type, without_never, Ty};
 use crate::values::{self, check_shape, read_value, write_value, Val};
 
-/// The entries, in the order of the C header. Recorded cases use these numbers.
+/// The entries. Recorded cases use these numbers.
 #[derive(Clone, Copy, Debug, PartialEq)]
 pub enum Entry {
     Lower = 1,
@@ -18,9 +18,10 @@ pub enum Entry {
     ReadFrame = 5,
     PartRead = 6,
     PartEdit = 7,
+    CleanShape = 8,
 }
 
-pub const ENTRIES: [Entry; 7] = [
+pub const ENTRIES: [Entry; 8] = [
     Entry::Lower,
     Entry::WriteShape,
     Entry::Reconstruct,
@@ -28,12 +29,26 @@ pub const ENTRIES: [Entry; 7] = [
     Entry::ReadFrame,
     Entry::PartRead,
     Entry::PartEdit,
+    Entry::CleanShape,
 ];
 
 impl Entry {
     pub fn name(self) -> &'static str {
-        ["lower", "write_shape", "reconstruct", "write_frame", "read_frame", "part_read", "part_edit"]
-            [self as usize - 1]
+        match self {
+            Entry::Lower => "lower",
+            Entry::WriteShape => "write_shape",
+            Entry::Reconstruct => "reconstruct",
+            Entry::WriteFrame => "write_frame",
+            Entry::ReadFrame => "read_frame",
+            Entry::PartRead => "part_read",
+            Entry::PartEdit => "part_edit",
+            Entry::CleanShape => "clean_shape",
+        }
+    }
+
+    /// Does it read a shape? The type need not lower for it.
+    pub fn reads_shape(self) -> bool {
+        matches!(self, Entry::Reconstruct | Entry::CleanShape)
     }
 
     /// The names of the arguments, without the buffer.
@@ -41,7 +56,7 @@ impl Entry {
         match self {
             Entry::Lower => &["type"],
             Entry::WriteShape | Entry::WriteFrame => &["type", "value"],
-            Entry::Reconstruct => &["type", "shape"],
+            Entry::Reconstruct | Entry::CleanShape => &["type", "shape"],
             Entry::ReadFrame => &["type", "frame"],
             Entry::PartRead => &["type", "frame", "path"],
             Entry::PartEdit => &["type", "frame", "path", "value"],
@@ -59,12 +74,16 @@ pub const NUMBERS: usize = 23;
 const MOST_WORK: usize = 1 << 22;
 
 /// What an entry answers with a buffer that is long enough.
-/// It panics where the published code and the plain one differ, or the two that number a value file or a shape.
+/// It panics where the published code and the plain one differ, or the two that number a value file or a shape, or where
+/// a cleaned shape is not what it must be.
 pub fn outcome(entry: Entry, args: &[Vec<u8>]) -> Outcome {
     let ty = read_type(&args[0])?;
-    if entry == Entry::Reconstruct {
+    if entry.reads_shape() {
         check_shape(&args[1])?;
-        return restored(&ty, &args[1]).map(|val| write_value(&val));
+        return match entry {
+            Entry::Reconstruct => restored(&ty, &args[1]).map(|val| write_value(&val)),
+            _ => cleaned(&ty, &args[1]),
+        };
     }
     check_lowering(&ty)?;
     match entry {
@@ -100,18 +119,54 @@ pub fn shaped(ty: &Ty, val: &Val) -> Vec<u8> {
     told
 }
 
-/// The value of a shape: rows 10 and 20. 20 is told by the walk to the spots, and by the published code: the shape that
-/// it writes of the value that it read is another one.
-fn restored(ty: &Ty, shape: &[u8]) -> Result<Val, u32> {
-    let walked = spots::met(ty, shape).number();
+/// A shape by the earlier reading, before R-5: what is met in it, its value and the cleaned shape, or row 10. The cleaned
+/// shape is told by the walk to the spots, and by two writers: it is what they make of the value that was read. The one
+/// is the published code alone.
+fn read_before(ty: &Ty, shape: &[u8]) -> Result<(Met, Val, Vec<u8>), u32> {
+    let met = spots::met(ty, shape);
     let read = reconstructed(ty, shape);
-    assert!(read.is_none() == (walked == Some(10)), "row 10 of a shape differs: walked {walked:?}");
+    assert!(read.is_none() == (met.number() == Some(10)), "row 10 of a shape differs: walked {:?}", met.number());
     let val = read.ok_or(10u32)?;
+    let clean = met.cleaned(shape);
+    assert!(values::shape(ty, &val) == clean, "a cleaned shape is not what the plain writer makes of its value");
     if can_be_rewritten(ty, &val) {
-        let another = rust::rewritten(&without_never(ty), shape).expect("the shape was read") != shape;
-        assert!(another == (walked == Some(20)), "row 20 of a shape differs: walked {walked:?}");
+        let written = rust::rewritten(&without_never(ty), shape).expect("the shape was read");
+        assert!(written == clean, "a cleaned shape is not what the published writer makes of its value");
     }
+    Ok((met, val, clean))
+}
+
+/// The value of a shape by today's reading: rows 10 and 20. 20 is told by the walk to the spots, and it comes where the
+/// cleaned shape is another one.
+fn restored(ty: &Ty, shape: &[u8]) -> Result<Val, u32> {
+    let (met, val, clean) = read_before(ty, shape)?;
+    let walked = met.number();
+    assert!((clean != shape) == (walked == Some(20)), "row 20 of a shape differs: walked {walked:?}");
     walked.map_or(Ok(val), Err)
+}
+
+/// The cleaned shape: row 10. Both readings give it the value of the shape, it stays when it is cleaned again, and for a
+/// type that lowers it is the value's shape.
+fn cleaned(ty: &Ty, shape: &[u8]) -> Outcome {
+    let (met, val, clean) = read_before(ty, shape)?;
+    assert!((clean == shape) == met.lacking().is_empty(), "a shape that passes is changed, or one that does not stays");
+    assert!(clean.len() <= shape.len(), "a cleaned shape is longer");
+    assert!(
+        reconstructed(ty, &clean).as_ref() == Some(&val),
+        "a cleaned shape has another value by the earlier reading"
+    );
+    assert!(restored(ty, &clean).as_ref() == Ok(&val), "a cleaned shape has another value by today's reading, or none");
+    assert!(spots::met(ty, &clean).cleaned(&clean) == clean, "a cleaned shape is cleaned again");
+    if check_lowering(ty).is_ok() {
+        assert!(shaped(ty, &val) == clean, "a cleaned shape is not the shape of its value");
+    }
+    Ok(clean)
+}
+
+/// The file of the value that the earlier reading gives to the shape of a case that it accepts.
+pub fn value_before(args: &[Vec<u8>]) -> Vec<u8> {
+    let ty = read_type(&args[0]).expect("the type is sound");
+    write_value(&reconstructed(&ty, &args[1]).expect("the shape was read"))
 }
 
 /// Is the published writer called? It lowers a type at most values, which may take too long. It would panic at a Never:
@@ -187,7 +242,7 @@ pub fn value_file(entry: Entry, args: &[Vec<u8>]) -> Option<(Ty, Vec<u8>)> {
 /// The type and the shape of a case. None where it has no shape or an earlier row holds.
 pub fn shape_file(entry: Entry, args: &[Vec<u8>]) -> Option<(Ty, &[u8])> {
     let ty = read_type(&args[0]).ok()?;
-    let shape = args.get(1).filter(|_| entry == Entry::Reconstruct)?;
+    let shape = args.get(1).filter(|_| entry.reads_shape())?;
     check_shape(shape).ok()?;
     Some((ty, shape))
 }

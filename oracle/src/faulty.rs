@@ -6,11 +6,11 @@ use std::sync::atomic::{AtomicUsize, Ordering};
 use crate::case::{Answer, Case};
 use crate::expect::{outcome, reconstructed, shape_file, value_file, Entry, Outcome};
 use crate::first_fault::faults;
-use crate::spots::{met, Spot};
-use crate::types::{read_type, write_type, Ty};
+use crate::spots::{met, with_units, Spot};
+use crate::types::{check_lowering, read_type, write_type, Ty};
 use crate::values::{read_value, write_value, Val};
 
-pub const FAULTS: [&str; 23] = [
+pub const FAULTS: [&str; 36] = [
     "no fault",
     "an exact buffer is too short",
     "a length is one too long",
@@ -34,6 +34,19 @@ pub const FAULTS: [&str; 23] = [
     "the last spot of a shape decides",
     "a buffer that is too short refuses before a spot does",
     "what stands under a none or a bit is taken for a spot",
+    "cleaning copies all",
+    "cleaning puts a unit and goes on inside the tree that it replaced",
+    "cleaning puts a unit under a none or a bit as well",
+    "cleaning wants a buffer as long as the shape",
+    "cleaning writes before it refuses",
+    "a refused cleaning tells a length",
+    "cleaning puts zeros behind its result, as far as the shape went",
+    "cleaning refuses with 20",
+    "cleaning stops at the first spot that has no unit",
+    "cleaning leaves a spot in a list as it is",
+    "cleaning leaves an array of 0 as it is",
+    "cleaning refuses a type that does not lower",
+    "cleaning refuses a buffer before it reads the shape",
 ];
 
 /// The fault at work; the first one is none.
@@ -82,7 +95,24 @@ pub fn answer(case: &Case) -> Answer {
         }
         12 if right == Err(21) => case.delivered(Err(16)),
         13..=15 if matches!(right, Err(16 | 21 | 22)) => case.delivered(misnumbered(case, fault).map_or(right, Err)),
-        16..=22 if matches!(right, Err(10 | 20)) => case.delivered(misread(case, fault).unwrap_or(right)),
+        16..=22 if case.entry == Entry::Reconstruct && matches!(right, Err(10 | 20)) => {
+            case.delivered(misread(case, fault).unwrap_or(right))
+        }
+        27 if case.entry == Entry::CleanShape && matches!(answer.number, 10 | 17) => {
+            let early = written_early(case);
+            let room = answer.lent.len().min(early.len());
+            answer.lent[..room].copy_from_slice(&early[..room]);
+            answer
+        }
+        28 if case.entry == Entry::CleanShape && matches!(answer.number, 10 | 17) => {
+            Answer { length: written_early(case).len(), ..answer }
+        }
+        29 if case.entry == Entry::CleanShape && answer.number == 0 => {
+            let end = case.args[1].len().min(answer.lent.len());
+            answer.lent[answer.length..end.max(answer.length)].fill(0);
+            answer
+        }
+        23.. if case.entry == Entry::CleanShape => case.delivered(miscleaned(case, fault, &right).unwrap_or(right)),
         _ => answer,
     }
 }
@@ -111,7 +141,6 @@ fn misread(case: &Case, fault: usize) -> Option<Outcome> {
     let met = met(&ty, shape);
     let lacking = met.lacking();
     let value = reconstructed(&ty, shape).map(|val| write_value(&val));
-    let in_list = |spot: &Spot| spot.above.iter().any(|&(kind, _)| kind == 7);
     let passes = match fault {
         16 => true,
         17 => return (lacking.first()?.place < met.misfits.first()?.place).then_some(Err(20)),
@@ -122,6 +151,50 @@ fn misread(case: &Case, fault: usize) -> Option<Outcome> {
         _ => return (!met.misfits.is_empty() && met.misfits.iter().all(|misfit| misfit.under)).then_some(Err(20)),
     };
     value.filter(|_| passes).map(Ok)
+}
+
+fn in_list(spot: &Spot) -> bool {
+    spot.above.iter().any(|&(kind, _)| kind == 7)
+}
+
+/// What one of the faults of cleaning makes of a shape, where it matters.
+fn miscleaned(case: &Case, fault: usize, right: &Outcome) -> Option<Outcome> {
+    let (ty, shape) = shape_file(case.entry, &case.args)?;
+    let met = met(&ty, shape);
+    let with_some = |holds: fn(&Spot) -> bool| {
+        let spots = met.spots.iter().filter(|spot| holds(spot));
+        Some(Ok(with_units(shape, spots.map(|spot| spot.place))))
+    };
+    match (fault, right) {
+        (23, Ok(_)) => Some(Ok(shape.to_vec())),
+        (24, Ok(_)) => {
+            let mut inside = shape.to_vec();
+            met.spots.iter().for_each(|spot| inside[spot.place] = 0);
+            Some(Ok(inside))
+        }
+        (25, Err(10)) if met.misfits.iter().all(|misfit| misfit.under) => {
+            let spots = met.spots.iter().map(|spot| spot.place);
+            let mut places: Vec<usize> = spots.chain(met.misfits.iter().map(|misfit| misfit.place)).collect();
+            places.sort();
+            Some(Ok(with_units(shape, places)))
+        }
+        (26, Ok(_)) | (35, Err(10)) => (case.room < shape.len()).then_some(Err(17)),
+        (30, Ok(_)) => met.number().map(Err),
+        (31, Ok(_)) => met.lacking().first().map(|spot| Ok(with_units(shape, [spot.place]))),
+        (32, Ok(_)) => with_some(|spot| !in_list(spot)),
+        (33, Ok(_)) => with_some(|spot| spot.kind != 6),
+        (34, _) => check_lowering(&ty).err().map(Err),
+        _ => None,
+    }
+}
+
+/// The front of what cleaning makes of a shape that is one tree: up to where it is not of its type.
+fn written_early(case: &Case) -> Vec<u8> {
+    let Some((ty, shape)) = shape_file(case.entry, &case.args) else { return vec![] };
+    let met = met(&ty, shape);
+    let end = met.misfits.first().map_or(shape.len(), |misfit| misfit.place);
+    let spots = met.spots.iter().map(|spot| spot.place);
+    with_units(&shape[..end], spots.take_while(|&place| place < end))
 }
 
 /// The shape of the value without the elements after each list's first block.

@@ -1,7 +1,7 @@
 //! Random cases: sound ones first, then one argument damaged.
 
 use crate::case::Case;
-use crate::expect::{Entry, Outcome, ENTRIES};
+use crate::expect::{Entry, Outcome};
 use crate::frames::{self, Lowered};
 use crate::paths::follow;
 use crate::random::Random;
@@ -187,7 +187,7 @@ fn long(r: &mut Random) -> Ty {
 
 fn random_type(r: &mut Random, entry: Entry, scale: Scale) -> Ty {
     let never = r.pick(&[0, 0, 0, 0, 0, 0, 0, 0, 5, 20]);
-    let units = if entry == Entry::Reconstruct { r.pick(&[20, 60]) } else { 20 };
+    let units = if entry.reads_shape() { r.pick(&[20, 60]) } else { 20 };
     let small = scale == Scale::Small;
     let k = Kinds { never, units, bounds: r.pick(&[3, 3, 3, 6, 9]), bits: r.pick(&[5, 5, 9]) };
     if !small {
@@ -199,7 +199,7 @@ fn random_type(r: &mut Random, entry: Entry, scale: Scale) -> Ty {
     }
     match r.below(100) {
         0..=7 => return deep(r, &k),
-        8..=11 if entry == Entry::Reconstruct => return beyond(r, &k),
+        8..=11 if entry.reads_shape() => return beyond(r, &k),
         12 => return beyond(r, &k),
         13 if !small => return Ty::Enum((0..r.between(90, 110)).map(|_| variant(r, &k, 3, &mut 40)).collect()),
         _ => {}
@@ -387,8 +387,9 @@ fn put_tree(r: &mut Random, n: usize, out: &mut Vec<u8>) {
     }
 }
 
-/// A shape of a value with trees in place of units at its spots: at one, at two, at about half or at all.
-fn shape_with_trees(r: &mut Random, ty: &Ty, val: &Val) -> Vec<u8> {
+/// A shape of a value with trees in place of units at its spots: at one, at two, at about half or at all. No tree has
+/// more than `most` records.
+fn shape_with_trees(r: &mut Random, ty: &Ty, val: &Val, most: usize) -> Vec<u8> {
     let spots = val.spots().max(1);
     let (how, one, other, seed) = (r.below(4), r.below(spots), r.below(spots), r.next());
     let put = |number: usize, out: &mut Vec<u8>| {
@@ -399,10 +400,33 @@ fn shape_with_trees(r: &mut Random, ty: &Ty, val: &Val) -> Vec<u8> {
             2 => r.percent(50),
             _ => true,
         };
-        let n = if picked { r.between(2, 7) } else { 1 };
+        let n = if picked { r.between(2, most) } else { 1 };
         put_tree(&mut r, n, out)
     };
     shape_over(ty, val, &put)
+}
+
+/// A shape of a value with a tree of n records in place of the unit at one of its spots, if it has any. It is a chain or
+/// any tree.
+pub fn shape_with_tree(r: &mut Random, ty: &Ty, val: &Val, n: usize) -> Option<Vec<u8>> {
+    let spots = val.spots();
+    if spots == 0 {
+        return None;
+    }
+    let one = r.below(spots);
+    let mut tree = vec![];
+    match r.percent(40) {
+        true => tree = [vec![1 + r.below(2) as u8; n - 1], vec![0]].concat(),
+        false => put_tree(r, n, &mut tree),
+    }
+    Some(shape_over(ty, val, &|number, out| out.extend(if number == one { &tree[..] } else { &[0] })))
+}
+
+/// The same with a tree of thousands of records, so that the shape often has the most that a shape may have, or one more.
+fn shape_with_large_tree(r: &mut Random, ty: &Ty, val: &Val) -> Option<Vec<u8>> {
+    let most = 65_537usize.checked_sub(shape(ty, val).len())?;
+    let n = if r.percent(30) { most + r.below(2) } else { r.between(most / 8, most) };
+    shape_with_tree(r, ty, val, n.max(2))
 }
 
 /// Puts a tree in place of a unit, any one.
@@ -415,11 +439,14 @@ fn put_tree_for_unit(r: &mut Random, bytes: &mut Vec<u8>) {
     bytes.splice(at..at + 1, tree);
 }
 
-fn random_shape(r: &mut Random, ty: &Ty, val: Option<&Val>, scale: Scale) -> Vec<u8> {
+fn random_shape(r: &mut Random, entry: Entry, ty: &Ty, val: Option<&Val>, scale: Scale) -> Vec<u8> {
     let mut out = vec![];
+    let cleans = entry == Entry::CleanShape;
+    let with_trees = if cleans { 60 } else { 30 };
     match val {
-        Some(val) if r.percent(30) => {
-            out = shape_with_trees(r, ty, val);
+        Some(val) if r.percent(with_trees) => {
+            let most = if cleans { r.pick(&[7, 7, 40]) } else { 7 };
+            out = shape_with_trees(r, ty, val, most);
             // Sometimes it is not of the type as well.
             if r.percent(20) {
                 put_tree_for_unit(r, &mut out);
@@ -439,7 +466,9 @@ fn random_shape(r: &mut Random, ty: &Ty, val: Option<&Val>, scale: Scale) -> Vec
             _ => put_tree(r, n, &mut out),
         }
     }
-    out
+    let large = cleans && scale == Scale::Any && r.below(1_000) < 8;
+    let val = val.filter(|_| large);
+    val.and_then(|val| shape_with_large_tree(r, ty, val)).unwrap_or(out)
 }
 
 fn random_bytes(r: &mut Random, most: usize) -> Vec<u8> {
@@ -612,7 +641,7 @@ fn sound_arguments(r: &mut Random, entry: Entry, scale: Scale) -> (Vec<Vec<u8>>,
     let val = value_of(r, &ty, scale);
     let mut args = vec![file];
     match entry {
-        Entry::Reconstruct => args.push(random_shape(r, &ty, val.as_ref(), scale)),
+        Entry::Reconstruct | Entry::CleanShape => args.push(random_shape(r, entry, &ty, val.as_ref(), scale)),
         Entry::WriteShape | Entry::WriteFrame => {
             args.push(val.as_ref().map(write_value).unwrap_or_else(|| random_bytes(r, 80)));
             return (args, val.map(|val| (ty, val)));
@@ -632,9 +661,9 @@ fn sound_arguments(r: &mut Random, entry: Entry, scale: Scale) -> (Vec<Vec<u8>>,
     (args, new)
 }
 
-/// A case of any entry, without its buffer's length.
-pub fn random_case(r: &mut Random, scale: Scale) -> Case {
-    let entry = r.pick(&ENTRIES);
+/// A case of one of these entries, without its buffer's length.
+pub fn random_case(r: &mut Random, entries: &[Entry], scale: Scale) -> Case {
+    let entry = r.pick(entries);
     random_case_of(r, entry, scale)
 }
 
@@ -659,9 +688,10 @@ pub fn random_case_of(r: &mut Random, entry: Entry, scale: Scale) -> Case {
     Case { entry, args, room: 0, fill: r.byte(), plain_fill: false }
 }
 
-/// The buffer's length: exact, one short, empty or roomy.
-pub fn random_room(r: &mut Random, outcome: &Outcome) -> usize {
+/// The buffer's length: exact, one short, empty or roomy; for a cleaned shape often no longer than the shape was.
+pub fn random_room(r: &mut Random, case: &Case, outcome: &Outcome) -> usize {
     match outcome {
+        Ok(result) if case.entry == Entry::CleanShape && r.percent(30) => r.between(result.len(), case.args[1].len()),
         Ok(result) => match r.below(10) {
             0..=4 => result.len(),
             5 | 6 => result.len().saturating_sub(1),

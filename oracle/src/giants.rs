@@ -3,7 +3,7 @@
 use crate::case::Case;
 use crate::compare::Tally;
 use crate::expect::{framed, Entry, Outcome, ENTRIES};
-use crate::generate::{random_path, random_value};
+use crate::generate::{random_path, random_value, shape_with_tree};
 use crate::paths::follow;
 use crate::random::Random;
 use crate::spoil::spoiled;
@@ -40,6 +40,8 @@ fn types() -> Vec<(&'static str, Ty)> {
         ("1,022 parts in a variant", Ty::Enum(vec![vec![Ty::Bool; 1_022]])),
         ("511 variants", Ty::Enum(vec![vec![Ty::UInt(8)]; 511])),
         ("Eithers inside each other", nest(31, Ty::UInt(64), |ty| Ty::Either(Box::new(Ty::Bool), Box::new(ty)))),
+        ("a unit", unit.clone()),
+        ("Eithers of units", nest(31, unit.clone(), |ty| Ty::Either(Box::new(unit.clone()), Box::new(ty)))),
     ]
 }
 
@@ -48,7 +50,7 @@ fn arguments(r: &mut Random, entry: Entry, ty: &Ty, val: &Val) -> Vec<Vec<u8>> {
     match entry {
         Entry::Lower => vec![file],
         Entry::WriteShape | Entry::WriteFrame => vec![file, write_value(val)],
-        Entry::Reconstruct => vec![file, shape(ty, val)],
+        Entry::Reconstruct | Entry::CleanShape => vec![file, shape(ty, val)],
         Entry::ReadFrame => vec![file, framed(ty, val)],
         _ => {
             let path = random_path(r, val);
@@ -63,25 +65,30 @@ fn arguments(r: &mut Random, entry: Entry, ty: &Ty, val: &Val) -> Vec<Vec<u8>> {
     }
 }
 
-/// A shape of a value with a left in place of the unit at one of its spots, if it has any.
-fn shape_without_unit(r: &mut Random, ty: &Ty, val: &Val) -> Option<Vec<u8>> {
-    let spots = val.spots();
-    if spots == 0 {
-        return None;
+/// Shapes of a value with trees in place of units: the smallest tree at one spot, one that makes the shape as long as it
+/// may be, one that makes it too long, and a left at every spot.
+fn shapes_without_units(r: &mut Random, ty: &Ty, val: &Val) -> Vec<Vec<u8>> {
+    let fill = 65_537usize.saturating_sub(shape(ty, val).len());
+    let trees = [2, fill, fill + 1].into_iter().filter(|&n| n > 1);
+    let mut all: Vec<Vec<u8>> = trees.filter_map(|n| shape_with_tree(r, ty, val, n)).collect();
+    if val.spots() > 0 {
+        all.push(shape_over(ty, val, &|_, out| out.extend([1, 0])));
     }
-    let one = r.below(spots);
-    Some(shape_over(ty, val, &|number, out| out.extend(if number == one { &[1, 0][..] } else { &[0] })))
+    all
 }
 
 /// Arguments with faults in the value file or without a unit in the shape, where the entry has one; an edit is of the
 /// whole.
-fn bad_arguments(r: &mut Random, entry: Entry, ty: &Ty, val: &Val) -> Option<Vec<Vec<u8>>> {
+fn bad_arguments(r: &mut Random, entry: Entry, ty: &Ty, val: &Val) -> Vec<Vec<Vec<u8>>> {
     let file = write_type(ty);
+    let bad_values = |r: &mut Random| spoiled(r, ty, val).into_iter();
     match entry {
-        Entry::WriteShape | Entry::WriteFrame => Some(vec![file, spoiled(r, ty, val)?]),
-        Entry::PartEdit => Some(vec![file, framed(ty, val), vec![], spoiled(r, ty, val)?]),
-        Entry::Reconstruct => Some(vec![file, shape_without_unit(r, ty, val)?]),
-        _ => None,
+        Entry::WriteShape | Entry::WriteFrame => bad_values(r).map(|bad| vec![file.clone(), bad]).collect(),
+        Entry::PartEdit => bad_values(r).map(|bad| vec![file.clone(), framed(ty, val), vec![], bad]).collect(),
+        Entry::Reconstruct | Entry::CleanShape => {
+            shapes_without_units(r, ty, val).into_iter().map(|bad| vec![file.clone(), bad]).collect()
+        }
+        _ => vec![],
     }
 }
 
@@ -95,10 +102,11 @@ pub fn giants(seed: u64) -> bool {
             let val = random_value(&mut r, &ty, &mut MOST.clone()).expect("the type has a value");
             for entry in ENTRIES {
                 let sound = arguments(&mut r, entry, &ty, &val);
-                for args in [Some(sound), bad_arguments(&mut r, entry, &ty, &val)].into_iter().flatten() {
+                for args in [vec![sound], bad_arguments(&mut r, entry, &ty, &val)].concat() {
                     let mut case = Case { entry, args, room: 0, fill: r.byte(), plain_fill: false };
                     let short = r.percent(20) as usize;
-                    let room = |told: &Outcome| told.as_ref().map_or(9, |result| result.len().saturating_sub(short));
+                    let room =
+                        |_: &Case, told: &Outcome| told.as_ref().map_or(9, |result| result.len().saturating_sub(short));
                     tally.run(&mut case, room, None);
                 }
             }

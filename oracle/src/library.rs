@@ -6,8 +6,12 @@ use crate::faulty;
 
 /// Is the entry in the library that is linked?
 pub fn has(entry: Entry) -> bool {
-    let part = matches!(entry, Entry::PartRead | Entry::PartEdit);
-    faulty::at_work() || cfg!(library) && (cfg!(parts) || !part)
+    let linked = match entry {
+        Entry::PartRead | Entry::PartEdit => cfg!(parts),
+        Entry::CleanShape => cfg!(cleaning),
+        _ => true,
+    };
+    faulty::at_work() || cfg!(library) && linked
 }
 
 #[cfg(library)]
@@ -42,6 +46,13 @@ mod c {
         pub fn niegluk_part_edit(
             ty: Bytes, ty_len: usize, frame: Lent, frame_len: usize, path: Bytes, path_len: usize,
             value: Bytes, value_len: usize, length: Length,
+        ) -> u32;
+    }
+
+    #[cfg(cleaning)]
+    extern "C" {
+        pub fn niegluk_clean_shape(
+            ty: Bytes, ty_len: usize, shape: Bytes, shape_len: usize, out: Lent, out_len: usize, length: Length,
         ) -> u32;
     }
 }
@@ -105,7 +116,9 @@ fn call(entry: Entry, args: &[Vec<u8>], null: bool, out: c::Lent, room: usize, l
             Entry::PartRead => c::niegluk_part_read(at(0), len(0), at(1), len(1), at(2), len(2), out, room, length),
             #[cfg(parts)]
             Entry::PartEdit => c::niegluk_part_edit(at(0), len(0), out, room, at(2), len(2), at(3), len(3), length),
-            #[cfg(not(parts))]
+            #[cfg(cleaning)]
+            Entry::CleanShape => c::niegluk_clean_shape(at(0), len(0), at(1), len(1), out, room, length),
+            #[cfg(not(all(parts, cleaning)))]
             _ => unreachable!("not in the library"),
         }
     }

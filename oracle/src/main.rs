@@ -22,6 +22,8 @@ mod survey;
 mod types;
 mod values;
 
+use expect::{Entry, ENTRIES};
+
 /// A shape may be 65,536 deep, and trees are dropped level by level.
 const STACK: usize = 1 << 29;
 
@@ -29,10 +31,15 @@ fn number(text: &str) -> u64 {
     text.parse().unwrap_or_else(|_| panic!("not a number: {text}"))
 }
 
+fn entry(name: &str) -> Entry {
+    ENTRIES.into_iter().find(|entry| entry.name() == name).unwrap_or_else(|| panic!("not an entry: {name}"))
+}
+
 fn run(args: &[&str]) -> bool {
     match args {
-        ["compare", seed, count] => compare::compare(number(seed), number(count), None),
-        ["trace", seed, count, file] => compare::compare(number(seed), number(count), Some(file)),
+        ["compare", seed, count] => compare::compare(&ENTRIES, number(seed), number(count), None),
+        ["compare", seed, count, name] => compare::compare(&[entry(name)], number(seed), number(count), None),
+        ["trace", seed, count, file] => compare::compare(&ENTRIES, number(seed), number(count), Some(file)),
         ["exhaust", records, nodes] => exhaust::exhaust(number(records) as usize, number(nodes) as usize),
         ["giants", seed] => giants::giants(number(seed)),
         ["faults", seed, count] => compare::try_faults(number(seed), number(count)),
@@ -42,7 +49,7 @@ fn run(args: &[&str]) -> bool {
         ["show", file] => record::show(file),
         ["replay", file] => record::replay(file),
         _ => {
-            eprintln!("usage: oracle compare SEED COUNT | trace SEED COUNT FILE | exhaust RECORDS NODES | giants SEED | faults SEED COUNT | survey SEED COUNT | edges | record FILE SEED COUNT | show FILE | replay FILE");
+            eprintln!("usage: oracle compare SEED COUNT [ENTRY] | trace SEED COUNT FILE | exhaust RECORDS NODES | giants SEED | faults SEED COUNT | survey SEED COUNT | edges | record FILE SEED COUNT | show FILE | replay FILE");
             false
         }
     }

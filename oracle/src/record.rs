@@ -5,7 +5,7 @@ use std::collections::HashSet;
 use crate::case::{hex, Answer, Case};
 use crate::compare::{compare_with, expected_outcome};
 use crate::edges::{edges, Edge};
-use crate::expect::{ENTRIES, NUMBERS};
+use crate::expect::{Entry, ENTRIES, NUMBERS};
 use crate::generate::{random_case, random_room, Scale};
 use crate::random::Random;
 
@@ -39,9 +39,9 @@ fn recorded(case: &Case, answer: &Answer) -> Vec<u8> {
 
 /// Checks the hand-written cases against the published code and the second writer; true if all hold.
 pub fn check_edges() -> bool {
-    let (short, long) = edges();
+    let all: Vec<Edge> = edges().into_iter().flat_map(|group| group.short.into_iter().chain(group.long)).collect();
     let mut good = true;
-    for edge in short.iter().chain(&long) {
+    for edge in &all {
         let trouble = match expected_outcome(&edge.case) {
             Err(trouble) => Some(trouble.text().to_string()),
             Ok(told) => {
@@ -56,7 +56,7 @@ pub fn check_edges() -> bool {
             good = false;
         }
     }
-    println!("edges: {} cases by hand, {}", short.len() + long.len(), if good { "0 differ" } else { "some differ" });
+    println!("edges: {} cases by hand, {}", all.len(), if good { "0 differ" } else { "some differ" });
     good
 }
 
@@ -68,52 +68,60 @@ fn small(case: &Case) -> bool {
     case.args.iter().all(|arg| arg.len() <= LONGEST)
 }
 
-/// Writes the hand-written cases and `count` random ones.
+/// Writes the hand-written cases and `count` random ones; of an entry that came later a tenth as many, behind all others.
 pub fn record(file: &str, seed: u64, count: usize) -> bool {
     if !check_edges() {
         return false;
     }
-    let (short, long) = edges();
-    let mut cases: Vec<Vec<u8>> = short.iter().map(recorded_edge).collect();
-    let mut size = 0;
-    let mut seen = HashSet::new();
-    let mut taken = [[0; NUMBERS]; 8];
-    let mut r = Random::new(seed);
-    let mut left = count;
-    let mut tries = 0;
-    while left > 0 && size < BYTES && tries < 200 * count {
-        tries += 1;
-        let mut case = random_case(&mut r, Scale::Small);
-        let Ok(outcome) = expected_outcome(&case) else { return false };
-        if !small(&case) || outcome.as_ref().is_ok_and(|result| result.len() > LONGEST) {
-            continue;
-        }
-        case.room = random_room(&mut r, &outcome);
-        (case.fill, case.plain_fill) = (0xa5, true);
-        let answer = case.delivered(outcome);
-        let number = &mut taken[case.entry as usize][answer.number as usize];
-        // What is common stays out while what is rare is still missing; long cases are rarer.
-        let share = if answer.number == 0 { count / 14 } else { count / 120 };
-        let bytes = recorded(&case, &answer);
-        if *number >= ENOUGH.max(share) || (bytes.len() > 750 && !r.percent(15)) || !seen.insert(bytes.clone()) {
-            continue;
-        }
-        *number += 1;
-        left -= 1;
-        size += bytes.len();
-        cases.push(bytes);
-    }
-    cases.extend(long.iter().map(recorded_edge));
-    for entry in ENTRIES {
-        let numbers = (0..NUMBERS).filter(|&n| taken[entry as usize][n] > 0);
-        let numbers: Vec<String> = numbers.map(|n| format!("{n}:{}", taken[entry as usize][n])).collect();
-        println!("{}: random cases {}", entry.name(), numbers.join(" "));
+    let mut cases: Vec<Vec<u8>> = vec![];
+    for (group, (seed, count)) in edges().iter().zip([(seed, count), (seed + 1, count / 10)]) {
+        let Some(random) = random_cases(group.entries, seed, count) else { return false };
+        cases.extend(group.short.iter().map(recorded_edge));
+        cases.extend(random);
+        cases.extend(group.long.iter().map(recorded_edge));
     }
     let mut file_bytes = vec![];
     put_number(&mut file_bytes, cases.len());
     file_bytes.extend(cases.concat());
     println!("{} cases, {} bytes", cases.len(), file_bytes.len());
     std::fs::write(file, file_bytes).is_ok()
+}
+
+/// About `count` random cases of these entries, as they are recorded. None where our own disagree.
+fn random_cases(entries: &[Entry], seed: u64, count: usize) -> Option<Vec<Vec<u8>>> {
+    let mut cases = vec![];
+    let mut size = 0;
+    let mut seen = HashSet::new();
+    let mut taken = [[0; NUMBERS]; ENTRIES.len() + 1];
+    let mut r = Random::new(seed);
+    let mut tries = 0;
+    while cases.len() < count && size < BYTES && tries < 20 * count {
+        tries += 1;
+        let mut case = random_case(&mut r, entries, Scale::Small);
+        let outcome = expected_outcome(&case).ok()?;
+        if !small(&case) || outcome.as_ref().is_ok_and(|result| result.len() > LONGEST) {
+            continue;
+        }
+        case.room = random_room(&mut r, &case, &outcome);
+        (case.fill, case.plain_fill) = (0xa5, true);
+        let answer = case.delivered(outcome);
+        let number = &mut taken[case.entry as usize][answer.number as usize];
+        // What is common stays out while what is rare is still missing; long cases are rarer.
+        let share = count / entries.len() / if answer.number == 0 { 2 } else { 17 };
+        let bytes = recorded(&case, &answer);
+        if *number >= ENOUGH.max(share) || (bytes.len() > 750 && !r.percent(15)) || !seen.insert(bytes.clone()) {
+            continue;
+        }
+        *number += 1;
+        size += bytes.len();
+        cases.push(bytes);
+    }
+    for &entry in entries {
+        let numbers = (0..NUMBERS).filter(|&n| taken[entry as usize][n] > 0);
+        let numbers: Vec<String> = numbers.map(|n| format!("{n}:{}", taken[entry as usize][n])).collect();
+        println!("{}: random cases {}", entry.name(), numbers.join(" "));
+    }
+    Some(cases)
 }
 
 /// Takes the fields of recorded cases one by one.

@@ -44,7 +44,7 @@ impl Shrinker {
         for _ in 0..SMALL_TRIES {
             let mut case = random_case_of(&mut r, self.best.entry, Scale::Small);
             let Ok(outcome) = expected_outcome(&case) else { continue };
-            case.room = random_room(&mut r, &outcome);
+            case.room = random_room(&mut r, &case, &outcome);
             if total(&case) < total(&self.best) {
                 self.take(case);
             }

@@ -1,5 +1,6 @@
 //! The spots of a shape (02, R-5): where an empty tuple, an array of 0 or a variant without parts is read.
-//! The whole shape is walked along its type, past what is not of the type; only then its number is taken.
+//! The whole shape is walked along its type, past what is not of the type; only then its number is taken, or the shape
+//! is cleaned (02, R-6).
 
 use crate::types::{split, Ty};
 use crate::values::tree_end;
@@ -44,6 +45,24 @@ impl Met {
         }
         (!self.lacking().is_empty()).then_some(20)
     }
+
+    /// The shape that was walked, with a unit at each spot and all else copied.
+    pub fn cleaned(&self, shape: &[u8]) -> Vec<u8> {
+        with_units(shape, self.spots.iter().map(|spot| spot.place))
+    }
+}
+
+/// The shape with a unit in place of the tree at each of these places. They ascend, and none is inside another's tree.
+pub fn with_units(shape: &[u8], places: impl IntoIterator<Item = usize>) -> Vec<u8> {
+    let mut out = vec![];
+    let mut at = 0;
+    for place in places {
+        out.extend(&shape[at..place]);
+        out.push(0);
+        at = tree_end(shape, place).expect("a tree ends");
+    }
+    out.extend(&shape[at..]);
+    out
 }
 
 /// All that is met in a shape, which is one tree.

@@ -4,7 +4,7 @@
 use std::collections::BTreeMap;
 
 use crate::case::Case;
-use crate::expect::{can_be_rewritten, outcome, reconstructed, shape_file, value_file, Entry};
+use crate::expect::{can_be_rewritten, outcome, reconstructed, shape_file, value_file, Entry, ENTRIES};
 use crate::first_fault::faults;
 use crate::generate::{random_case, Scale};
 use crate::random::Random;
@@ -63,12 +63,21 @@ fn features(case: &Case, ty: &Ty, result: &[u8]) -> Vec<String> {
         put(true, &format!("path of {} steps", ["0", "1", "2", "3", "4 or more"][steps.min(4)]));
     }
     put(case.entry == Entry::PartEdit && result != case.args[1], "an edit that changes the frame");
-    if case.entry == Entry::Reconstruct {
+    if case.entry.reads_shape() {
         put(case.args[1].len() > 65_000, "shape of over 65,000");
-        let spots = met(ty, &case.args[1]).spots.len();
-        put(true, &format!("{} spots with units", ["0", "1", "2", "3 or more"][spots.min(3)]));
+        let met = met(ty, &case.args[1]);
+        put(true, &format!("{} spots with units", some(met.spots.len() - met.lacking().len())));
+    }
+    if case.entry == Entry::CleanShape {
+        put(case.args[1] == result, "a shape that stays");
+        put(case.args[1].len() > result.len() + 10_000, "cleaned of over 10,000 records");
+        all.extend(lacking_units(case));
     }
     all
+}
+
+fn some(n: usize) -> &'static str {
+    ["0", "1", "2", "3 or more"][n.min(3)]
 }
 
 /// How the fault that decides on a value file meets the others.
@@ -108,7 +117,7 @@ fn spot_name(spot: &Spot) -> String {
         Some((_, 1)) => "as a payload",
         Some(_) => "in a payload",
     };
-    format!("20 at {read} {above}")
+    format!("{read} {above}")
 }
 
 /// At which spots of a shape anything but a unit stands, and how these meet what is not of the type.
@@ -122,17 +131,18 @@ fn lacking_units(case: &Case) -> Vec<String> {
             all.push(name);
         }
     };
-    if let Some(val) = reconstructed(&ty, shape) {
-        lacking.iter().for_each(|spot| put(true, spot_name(spot)));
-        put(true, format!("20 at {} spots", ["0", "1", "2", "3 or more"][lacking.len().min(3)]));
-        put(lacking.len() < met.spots.len(), "20 beside a spot with its unit".into());
-        put(check_lowering(&ty) == Err(6), "20, a Never that is not reached".into());
-        put(check_lowering(&ty) == Err(7), "20, beyond row 7".into());
-        put(!can_be_rewritten(&ty, &val), "20 told by the walk alone".into());
+    if let Some(val) = reconstructed(&ty, shape).filter(|_| !lacking.is_empty()) {
+        let told = if case.entry == Entry::CleanShape { "cleaned" } else { "20" };
+        lacking.iter().for_each(|spot| put(true, format!("{told} at {}", spot_name(spot))));
+        put(true, format!("{told} at {} spots", some(lacking.len())));
+        put(lacking.len() < met.spots.len(), format!("{told} beside a spot with its unit"));
+        put(check_lowering(&ty) == Err(6), format!("{told}, a Never that is not reached"));
+        put(check_lowering(&ty) == Err(7), format!("{told}, beyond row 7"));
+        put(!can_be_rewritten(&ty, &val), format!("{told}, the published writer is not called"));
     }
     for misfit in &met.misfits {
-        put(lacking.iter().any(|spot| spot.place < misfit.place), "10 behind 20".into());
-        put(lacking.iter().any(|spot| spot.place > misfit.place), "10 before 20".into());
+        put(lacking.iter().any(|spot| spot.place < misfit.place), "10 behind a spot without its unit".into());
+        put(lacking.iter().any(|spot| spot.place > misfit.place), "10 before a spot without its unit".into());
     }
     all
 }
@@ -141,7 +151,7 @@ pub fn survey(seed: u64, count: u64) -> bool {
     let mut r = Random::new(seed);
     let mut reached: BTreeMap<String, u64> = BTreeMap::new();
     for _ in 0..count {
-        let case = random_case(&mut r, Scale::Any);
+        let case = random_case(&mut r, &ENTRIES, Scale::Any);
         let mut all = match outcome(case.entry, &case.args) {
             Ok(result) => features(&case, &read_type(&case.args[0]).expect("the case is accepted"), &result),
             Err(16 | 21 | 22) => meetings(&case),

@@ -3,7 +3,9 @@ pub mod Delivering
 pub mod Values
 pub mod Lowers
 pub mod Shapes
+pub mod Readings
 pub mod Reconstructs
+pub mod Cleans
 pub mod Frames
 pub mod Unframes
 pub mod Parts

@@ -5,7 +5,7 @@ use mathlib.Core.Path.{_≡_}
 use mathlib.Core.List.{List}
 use Prim.Native.Nat.{ℕ}
 use Rattle.model.specs.Frames.{after}
-use Rattle.model.specs.Operations.{lowered, shaped, reconstructed, framed, unframed, part-read, edited, delivered}
+use Rattle.model.specs.Operations.{lowered, shaped, reconstructed, cleaned-shape, framed, unframed, part-read, edited, delivered}
 
 -- a call of `lower`
 abbrev pub Lower : (ty out : List ℕ) → ℕ → ℕ → List ℕ → Type 0
@@ -18,6 +18,10 @@ WriteShape ty value out n len left = (n, len, left) ≡ delivered (shaped ty val
 -- a call of `reconstruct`
 abbrev pub Reconstruct : (ty shape out : List ℕ) → ℕ → ℕ → List ℕ → Type 0
 Reconstruct ty shape out n len left = (n, len, left) ≡ delivered (reconstructed ty shape) out
+
+-- a call of `clean_shape`
+abbrev pub CleanShape : (ty shape out : List ℕ) → ℕ → ℕ → List ℕ → Type 0
+CleanShape ty shape out n len left = (n, len, left) ≡ delivered (cleaned-shape ty shape) out
 
 -- a call of `write_frame`
 abbrev pub WriteFrame : (ty value out : List ℕ) → ℕ → ℕ → List ℕ → Type 0

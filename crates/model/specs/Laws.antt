@@ -25,4 +25,5 @@ pub mod Demands
 pub mod Cases
 pub mod Numbered
 pub mod Units
+pub mod Cleaning
 pub mod Edits

@@ -13,7 +13,7 @@ use Rattle.model.specs.TypeFiles.{type-of}
 use Rattle.model.specs.Lowering.{lower, has-never, over-large}
 use Rattle.model.specs.Values.{Value, inject}
 use Rattle.model.specs.Reconstruct.{reconstruct}
-use Rattle.model.specs.Spots.{lacks-unit}
+use Rattle.model.specs.Spots.{lacks-unit, cleaned}
 use Rattle.model.specs.ShapeFiles.{shape-of, shape-file}
 use Rattle.model.specs.ValueFiles.{value-of, value-file}
 use Rattle.model.specs.Frames.{Place, frame-file, unframe}
@@ -66,6 +66,12 @@ reconstructed ty shape = do
   r ← earlier-reading ty shape
   refuse no-unit (lacks-unit (r .type) (r .tree))
   done (value-file (r .type) (r .value))
+
+-- the shape with a unit at each of its spots (02, R-6), for all that the earlier reading reads
+unfoldable pub cleaned-shape : List ℕ → List ℕ → Outcome (List ℕ)
+cleaned-shape ty shape = do
+  r ← earlier-reading ty shape
+  done (shape-file (cleaned (r .type) (r .tree)))
 
 module _ (p : Place) where
   -- the frame of a value

@@ -1,5 +1,5 @@
 -- Demand 2 of the entries, said of calls: what a call of one entry left in its buffer, a call of the other turns back into the file it came from;
--- and where a unit belongs (02, R-5).
+-- where a unit belongs (02, R-5); and what cleaning a shape leaves (02, R-6).
 -- A corollary of what is promised of each call (`Calls`) and of the model's laws. Every list here is what a slice of bytes held.
 use mathlib.Core.Path.{_≡_, refl, sym, ap, _∙_}
 use mathlib.Core.Bool.{Bool, true, false}
@@ -18,13 +18,14 @@ use Rattle.model.specs.Frames.{after}
 use Rattle.model.specs.Types.{Ty}
 use Rattle.model.specs.Values.{Value}
 use Rattle.model.specs.ValueFiles.{value-of}
-use Rattle.model.specs.Operations.{lowering, shaped, earlier-reconstructed, reconstructed, framed, unframed, delivered}
+use Rattle.model.specs.Operations.{lowering, shaped, earlier-reconstructed, reconstructed, cleaned-shape, framed, unframed, delivered}
 use Rattle.model.specs.Conditions.{ShapeBelongs, LacksUnit, TypeLowers, FrameAccepted}
 use Rattle.model.specs.Laws.Outcome.{done-injective}
-use Rattle.model.specs.Laws.Numbered.{never-zero, shaped-row, reconstructed-row, framed-row, unframed-row}
+use Rattle.model.specs.Laws.Numbered.{never-zero, shaped-row, reconstructed-row, cleaned-row, framed-row, unframed-row}
 use Rattle.model.specs.Laws.Demands.{OneValue, value-has-shape, value-has-frame, shape-reads-back, belonging-shape-reads, frame-reads-back, accepted-frame-reads, frame-accepted}
 use Rattle.model.specs.Laws.Units.{no-unit-row, elsewhere-earlier, accepted-written, accepted-belongs}
-use Rattle.model.specs.Calls.{WriteShape, Reconstruct, WriteFrame, ReadFrame}
+use Rattle.model.specs.Laws.Cleaning.{cleaned-refusals, cleaned-passes, passes-cleaned, never-longer, passing-same, cleaned-again, cleaned-written}
+use Rattle.model.specs.Calls.{WriteShape, Reconstruct, CleanShape, WriteFrame, ReadFrame}
 
 -- WHAT IS SAID OF CALLS
 
@@ -54,14 +55,14 @@ abbrev calls : (List ℕ → Outcome (List ℕ)) → Calls
 calls op file before n len left = (n, len, left) ≡ delivered (op file) before
 
 -- a number, a length, and what a buffer held afterwards; two that are equal are so in each part
-abbrev Answer : Type 0
+abbrev pub Answer : Type 0
 Answer = ℕ × ℕ × List ℕ
 
-parts : (x y : Answer) → x ≡ y → (x .0 ≡ y .0) × (x .1 ≡ y .1) × (x .2 ≡ y .2)
+pub parts : (x y : Answer) → x ≡ y → (x .0 ≡ y .0) × (x .1 ≡ y .1) × (x .2 ≡ y .2)
 parts x y h = (ap (λ (a : Answer). a .0) h, ap (λ (a : Answer). a .1) h, ap (λ (a : Answer). a .2) h)
 
 -- what is delivered of a file with room for it, of one without, and of a refusal
-delivers : (o : Outcome (List ℕ)) (file before : List ℕ) → o ≡ done file → length file ≤ length before → delivered o before ≡ (0, length file, file ++ drop (length file) before)
+pub delivers : (o : Outcome (List ℕ)) (file before : List ℕ) → o ≡ done file → length file ≤ length before → delivered o before ≡ (0, length file, file ++ drop (length file) before)
 unfolding delivered
 delivers o file before e l = rw e (rw (le-ltb (length before) (length file) l, delivered) refl)
 
@@ -69,7 +70,7 @@ withholds : (o : Outcome (List ℕ)) (file before : List ℕ) → o ≡ done fil
 unfolding delivered
 withholds o file before e l = rw e (rw (lt-ltb (length before) (length file) l, delivered) refl)
 
-refuses : (o : Outcome (List ℕ)) (m : ℕ) (before : List ℕ) → o ≡ refused m → delivered o before ≡ (m, 0, before)
+pub refuses : (o : Outcome (List ℕ)) (m : ℕ) (before : List ℕ) → o ≡ refused m → delivered o before ≡ (m, 0, before)
 unfolding delivered
 refuses o m before e = rw e refl
 
@@ -78,7 +79,7 @@ makes : (op : List ℕ → Outcome (List ℕ)) (file made : List ℕ) → op fil
 makes op file made e before n len left h = record { fits = λ l. parts _ _ (h ∙ delivers (op file) made before e l); too-long = λ l. parts _ _ (h ∙ withholds (op file) made before e l) }
 
 -- where a call was accepted, the operation gives what the call left
-accepted : (o : Outcome (List ℕ)) → ((m : ℕ) → o ≡ refused m → 1 ≤ m) → (before : List ℕ) (len : ℕ) (left : List ℕ) → _≡_ {A = Answer} (0, len, left) (delivered o before) → o ≡ done (take len left)
+pub accepted : (o : Outcome (List ℕ)) → ((m : ℕ) → o ≡ refused m → 1 ≤ m) → (before : List ℕ) (len : ℕ) (left : List ℕ) → _≡_ {A = Answer} (0, len, left) (delivered o before) → o ≡ done (take len left)
 accepted o rows before len left h = go o refl
   where
     room : (file : List ℕ) → o ≡ done file → (t : Bool) → ltb (length before) (length file) ≡ t → o ≡ done (take len left)
@@ -160,3 +161,48 @@ module _ (ty shape before : List ℕ) (n len : ℕ) (left : List ℕ) (h : Recon
   -- and elsewhere it was answered, and its buffer left, as by the earlier reading, the Rust's
   pub elsewhere-told : (LacksUnit ty shape → ⊥) → (n, len, left) ≡ delivered (earlier-reconstructed ty shape) before
   elsewhere-told l = h ∙ ap (λ o. delivered o before) (elsewhere-earlier ty shape l)
+
+-- CLEANING (02, R-6), whatever the type
+
+module _ (ty shape : List ℕ) where
+  -- a shape that the earlier reading refuses is refused with its number, and nothing is written
+  pub clean-refused : (m : ℕ) → earlier-reconstructed ty shape ≡ refused m → (before : List ℕ) (n len : ℕ) (left : List ℕ) → CleanShape ty shape before n len left → (n ≡ m) × (len ≡ 0) × (left ≡ before)
+  clean-refused m e before n len left h = parts _ _ (h ∙ refuses (cleaned-shape ty shape) m before (cleaned-refusals ty shape m .1 e))
+
+  -- of one that it reads, every call of `clean_shape` makes one shape, which is no longer than it was, and of that every call of `reconstruct` the value file that the earlier reading gave
+  pub clean-made : (val : List ℕ) → earlier-reconstructed ty shape ≡ done val → (clean : List ℕ) × Makes (CleanShape ty) shape clean × (length clean ≤ length shape) × Makes (Reconstruct ty) clean val
+  clean-made val e = let (clean, c, r) = cleaned-passes ty shape val e in (clean, makes (cleaned-shape ty) shape clean c, never-longer ty shape clean c, makes (reconstructed ty) clean val r)
+
+  -- a shape that `reconstruct` accepts comes back equal
+  pub clean-keeps : (before : List ℕ) (len : ℕ) (left : List ℕ) → Reconstruct ty shape before 0 len left → Makes (CleanShape ty) shape shape
+  clean-keeps before len left h = makes (cleaned-shape ty) shape shape (passing-same ty shape .0 (take len left, accepted (reconstructed ty shape) (never-zero (reconstructed-row ty shape) refl) before len left h))
+
+  -- for a type that lowers, a call is answered, and its buffer left, as a call of `write_shape` on that value file
+  pub clean-as-written : Bytes ty → TypeLowers ty → (val : List ℕ) → earlier-reconstructed ty shape ≡ done val → (before : List ℕ) (n len : ℕ) (left : List ℕ) → CleanShape ty shape before n len left ↔ WriteShape ty val before n len left
+  clean-as-written b l val e before n len left = let s = ap (λ o. delivered o before) (cleaned-written ty b l shape val e) in ((λ h. h ∙ s), λ h. h ∙ sym s)
+
+  module _ (before : List ℕ) (n len : ℕ) (left : List ℕ) (h : CleanShape ty shape before n len left) where
+    -- nothing is longer than it was
+    pub clean-length : len ≤ length shape
+    clean-length = go (cleaned-shape ty shape) refl
+      where
+        room : (file : List ℕ) → cleaned-shape ty shape ≡ done file → (t : Bool) → ltb (length before) (length file) ≡ t → len ≤ length shape
+        room file e true l = let (_, z, _) = parts _ _ (h ∙ withholds (cleaned-shape ty shape) file before e (ltb-true (length before) (length file) l)) in omega arith
+        room file e false l = let (_, z, _) = parts _ _ (h ∙ delivers (cleaned-shape ty shape) file before e (ltb-false (length before) (length file) l)) in omega (arith, never-longer ty shape file e)
+
+        go : (o : Outcome (List ℕ)) → cleaned-shape ty shape ≡ o → len ≤ length shape
+        go (done file) e = room file e (ltb (length before) (length file)) refl
+        go (refused m) e = let (_, z, _) = parts _ _ (h ∙ refuses (cleaned-shape ty shape) m before e) in omega arith
+
+  -- of what an accepted call left
+  module _ (before : List ℕ) (len : ℕ) (left : List ℕ) (h : CleanShape ty shape before 0 len left) where
+    cleans : cleaned-shape ty shape ≡ done (take len left)
+    cleans = accepted (cleaned-shape ty shape) (never-zero (cleaned-row ty shape) refl) before len left h
+
+    -- every call of `reconstruct` makes the value file that the earlier reading gave
+    pub clean-reads : (val : List ℕ) × (earlier-reconstructed ty shape ≡ done val) × Makes (Reconstruct ty) (take len left) val
+    clean-reads = let (val, e, r) = passes-cleaned ty shape (take len left) cleans in (val, e, makes (reconstructed ty) (take len left) val r)
+
+    -- and every call of `clean_shape` makes it again
+    pub clean-again : Makes (CleanShape ty) (take len left) (take len left)
+    clean-again = makes (cleaned-shape ty) (take len left) (take len left) (cleaned-again ty shape (take len left) cleans)

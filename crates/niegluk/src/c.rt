@@ -3,7 +3,7 @@ use reply::length_of;
 use reply::number;
 ghost use Rattle.model.specs.Edits.{Edited};
 ghost use Rattle.model.specs.Frames.{after};
-ghost use Rattle.model.specs.Calls.{Lower, WriteShape, Reconstruct, WriteFrame, ReadFrame, PartRead, PartEdit};
+ghost use Rattle.model.specs.Calls.{Lower, WriteShape, Reconstruct, CleanShape, WriteFrame, ReadFrame, PartRead, PartEdit};
 
 // `lower` for C: the number, 0 where the type is lowered; `length` is 0 where it is not.
 #[no_mangle]
@@ -43,6 +43,21 @@ pub extern "C" fn niegluk_reconstruct(
     let restored = crate::reconstruct(ty, shape, out);
     *length = length_of(restored);
     number(restored)
+}
+
+// `clean_shape` for C: the number, 0 where the cleaned shape is written; `length` is 0 where it is not.
+#[no_mangle]
+pub extern "C" fn niegluk_clean_shape(
+    ty: &[u8],
+    shape: &[u8],
+    out: &mut [u8],
+    length: &mut usize,
+) -> u32
+    ensures { λ r. ⌜ CleanShape (now (ty .entry)) (now (shape .entry)) (now (out .entry)) r (now (length .exit)) (now (out .exit)) ⌝ }
+{
+    let cleaned = crate::clean_shape(ty, shape, out);
+    *length = length_of(cleaned);
+    number(cleaned)
 }
 
 // `write_frame` for C: the number, 0 where the frame is written; `length` is 0 where it is not.

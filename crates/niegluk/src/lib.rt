@@ -6,7 +6,7 @@ use entries::read_type;
 use reply::Reply;
 ghost use Rattle.model.specs.Edits.{Edited};
 ghost use Rattle.model.specs.Frames.{after};
-ghost use Rattle.model.specs.Calls.{Lower, WriteShape, Reconstruct, WriteFrame, ReadFrame, PartRead, PartEdit};
+ghost use Rattle.model.specs.Calls.{Lower, WriteShape, Reconstruct, CleanShape, WriteFrame, ReadFrame, PartRead, PartEdit};
 ghost use Rattle.reply.specs.Numbers.{numberOf, lengthOf};
 
 mod c;
@@ -40,6 +40,17 @@ pub fn reconstruct(ty: &[u8], shape: &[u8], out: &mut [u8]) -> Reply
     let mut columns = [0usize; 2048];
     let read = read_type(ty, false, &mut table, &mut columns);
     operations::reconstruct(ty, read, &columns, shape, out)
+}
+
+// Writes a shape over the front of `out` with a unit at each spot where an empty tuple, an array of 0 or a variant without parts is read, and all else
+// as it is, and answers its length; every byte behind it stays, and all of them where it is refused. It takes whatever the Rust reads: a Never is refused only where the shape reaches it.
+pub fn clean_shape(ty: &[u8], shape: &[u8], out: &mut [u8]) -> Reply
+    ensures { λ r. ⌜ CleanShape (now (ty .entry)) (now (shape .entry)) (now (out .entry)) (numberOf r) (lengthOf r) (now (out .exit)) ⌝ }
+{
+    let mut table = [Entry::NONE; 1024];
+    let mut columns = [0usize; 2048];
+    let read = read_type(ty, false, &mut table, &mut columns);
+    operations::clean_shape(ty, read, &columns, shape, out)
 }
 
 // Writes the frame of a value over the front of `out`, and answers its length; every byte behind it stays, and all of them where it is refused.

@@ -12,12 +12,13 @@ use rebuild::value_records;
 use reply::Refusal;
 use reply::Reply;
 use restore::write_value;
+use shape_clean::write_cleaned;
 use structural::write_lowered;
 use table::RECORDS;
 use value::Checked;
 use value::check_file;
 ghost use mathlib.Core.Bool.{true, false};
-ghost use Rattle.model.specs.Calls.{Lower, WriteShape, Reconstruct, WriteFrame, ReadFrame, PartRead, PartEdit};
+ghost use Rattle.model.specs.Calls.{Lower, WriteShape, Reconstruct, CleanShape, WriteFrame, ReadFrame, PartRead, PartEdit};
 ghost use Rattle.model.specs.Edits.{Edited};
 ghost use Rattle.model.specs.Frames.{after};
 ghost use Rattle.reply.specs.Numbers.{numberOf, lengthOf};
@@ -84,6 +85,33 @@ pub fn reconstruct(ty: &[u8], read: Read, columns: &[usize], shape: &[u8], out: 
                             return Reply::Refused(Refusal::NoRoom);
                         }
                         Reply::Done(write_value(ty, ends, shape, out))
+                    }
+                },
+            }
+        }
+    }
+}
+
+// Writes a shape over the front of `out` with a unit at each spot where an empty tuple, an array of 0 or a variant without parts is read, and all else
+// as it is, and answers its length; every byte behind it stays, and all of them where it is refused. It takes whatever the Rust reads: a Never is refused only where the shape reaches it.
+pub fn clean_shape(ty: &[u8], read: Read, columns: &[usize], shape: &[u8], out: &mut [u8]) -> Reply
+    requires { ⌜ TypeRead false (now ty) read (now columns) ⌝ }
+    ensures { λ r. ⌜ CleanShape (now (ty .entry)) (now (shape .entry)) (now (out .entry)) (numberOf r) (lengthOf r) (now (out .exit)) ⌝ }
+{
+    match read {
+        Read::Refused(x) => Reply::Refused(x),
+        Read::Root(_) => {
+            let ends = &columns[..RECORDS];
+            match check_shape(shape) {
+                ShapeAnswer::Refused(x) => Reply::Refused(x),
+                ShapeAnswer::Ok => match value_records(ty, ends, shape) {
+                    Records::Not => { Reply::Refused(Refusal::NotReconstructed) }
+                    Records::Of(_, surplus) => {
+                        // the surplus is what cleaning takes away
+                        if out.len() < shape.len() - surplus {
+                            return Reply::Refused(Refusal::NoRoom);
+                        }
+                        Reply::Done(write_cleaned(ty, ends, shape, out))
                     }
                 },
             }

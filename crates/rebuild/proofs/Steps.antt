@@ -19,7 +19,8 @@ use Rattle.rebuild.specs.declared.Parts.{Parts}
 use Rattle.rebuild.specs.declared.Parts.the-variants.{Bits, Copies, Types}
 use Rattle.rebuild.specs.declared.Read.{Read}
 use Rattle.rebuild.specs.declared.Read.the-variants.{Of, Not}
-use Rattle.rebuild.specs.Reads.{Reader, plus, units, pairs, passes, bit, reader}
+use Rattle.rebuild.specs.Places.{units, pairs, passes, bit, at-places}
+use Rattle.rebuild.specs.Reads.{Reader, plus, counts, reader}
 use Rattle.structural.specs.Forms.{Stands}
 use Rattle.told.specs.Forms.{hops}
 use Rattle.rebuild.specs.Forms.{most-records, Few, Limits, count-of, surplus-of, form-of, skip, standing, part, balanced, chosen, block-of, listed}
@@ -45,20 +46,20 @@ here x p e h = h ∙ ap (λ (f : Reader). f p) (sym e)
 module _ {d : ℕ} {s E : List ℕ} {p : ℕ} (g : Stands d s E p) where
   module _ (sh : List ℕ) (h : Head) (f : Form) (e : h ≡ headAt s p) (i : Fair h) (j : f ≡ form-of h) where
     pub record-refused : (q : ℕ) → f ≡ form.Refused → Not ≡ standing (reader sh) d s p q
-    unfolding reader
+    unfolding reader at-places counts
     record-refused q k = here Not q (as-formed g (reader sh) h f e i j form.Refused k) refl
 
     module _ (q : ℕ) (x z : Read) where
       pub record-product : (k : Parts) (n : ℕ) → f ≡ form.Product k n → x ≡ balanced (reader sh) k (d - 1) s E n (p + 1) q → z ≡ plus 1 0 x → z ≡ standing (reader sh) d s p q
-      unfolding reader
+      unfolding reader at-places counts
       record-product k n o u v = here z q (as-product g (reader sh) h f e i j k n o .same) (v ∙ ap (plus 1 0) u)
 
       pub record-sum : (n : ℕ) → f ≡ form.Sum n → x ≡ chosen (reader sh) (d - 1) s E n (p + 1) q → z ≡ plus 1 0 x → z ≡ standing (reader sh) d s p q
-      unfolding reader
+      unfolding reader at-places counts
       record-sum n o u v = here z q (as-sum g (reader sh) h f e i j n o .same) (v ∙ ap (plus 1 0) u)
 
       pub record-list : (b : NonZeroPow2Usize) → f ≡ form.List b → x ≡ listed (reader sh) (d - 1) s b (p + 1) q → z ≡ plus 1 0 x → z ≡ standing (reader sh) d s p q
-      unfolding reader
+      unfolding reader at-places counts
       record-list b o u v = here z q (as-list g (reader sh) h f e i j b o .same) (v ∙ ap (plus 1 0) u)
 
     pub record-payload : (q : ℕ) (x : Read) (n : ℕ) → f ≡ form.Payload n → x ≡ balanced (reader sh) Types (d - 1) s E n (p + 1) q → x ≡ standing (reader sh) d s p q
@@ -98,8 +99,8 @@ module _ (sh : List ℕ) (d : ℕ) (s : List ℕ) (p : ℕ) (x : Read) where
 -- PARTS
 
 module _ (sh : List ℕ) (k : Parts) (d : ℕ) (s : List ℕ) (q p : ℕ) (x : Read) where
-  pub part-bit : k ≡ Bits → x ≡ bit sh p → x ≡ part (reader sh) k d s q p
-  unfolding reader
+  pub part-bit : k ≡ Bits → x ≡ bit counts sh p → x ≡ part (reader sh) k d s q p
+  unfolding reader at-places counts
   part-bit e h = rw e h
 
   pub part-copy : k ≡ Copies → x ≡ standing (reader sh) d s q p → x ≡ part (reader sh) k d s q p
@@ -111,8 +112,8 @@ module _ (sh : List ℕ) (k : Parts) (d : ℕ) (s : List ℕ) (q p : ℕ) (x : R
 -- PRODUCTS
 
 module _ (sh : List ℕ) (k : Parts) (d : ℕ) (s E : List ℕ) (n q p : ℕ) where
-  pub product-none : (x : Read) → n ≡ 0 → x ≡ passes sh p → x ≡ balanced (reader sh) k d s E n q p
-  unfolding reader
+  pub product-none : (x : Read) → n ≡ 0 → x ≡ passes counts sh p → x ≡ balanced (reader sh) k d s E n q p
+  unfolding reader at-places counts
   product-none x e h = here x p (balanced-none (reader sh) k d s E n q e) h
 
   pub product-one : (x : Read) → n ≡ 1 → x ≡ part (reader sh) k d s q p → x ≡ balanced (reader sh) k d s E n q p
@@ -120,16 +121,16 @@ module _ (sh : List ℕ) (k : Parts) (d : ℕ) (s E : List ℕ) (n q p : ℕ) wh
 
   module _ (b : ℕ) (h : b ≡ getD sh p 4) (z : n ≡ 0 → ⊥) (o : n ≡ 1 → ⊥) where
     pub product-no : (b ≡ 3 → ⊥) → Not ≡ balanced (reader sh) k d s E n q p
-    unfolding reader
+    unfolding reader at-places counts
     product-no f = here Not p (balanced-step (reader sh) k d s E n (btree-split-index n) q refl (omega arith)) (pair-no sh p b h _ _ f)
 
     module _ (few : ℕ) (e : few ≡ btree-split-index n) (f : b ≡ 3) (x : Read) (i : x ≡ balanced (reader sh) k d s E few q (p + 1)) where
       pub product-stop : x ≡ Not → Not ≡ balanced (reader sh) k d s E n q p
-      unfolding reader
+      unfolding reader at-places counts
       product-stop j = here Not p (balanced-step (reader sh) k d s E n few q e (omega arith)) (pair-stop sh p b h _ _ x f i j)
 
       pub product-on : (m c a : ℕ) → x ≡ Of m c a → (rest : ℕ) → rest ≡ skip k E few q → (y w : Read) → y ≡ balanced (reader sh) k d s E (n - few) rest m → w ≡ plus c a y → w ≡ balanced (reader sh) k d s E n q p
-      unfolding reader
+      unfolding reader at-places counts
       product-on m c a j rest r y w u v = here w p (balanced-step (reader sh) k d s E n few q e (omega arith)) (pair-on sh p b h _ _ x y w m c a f i j (u ∙ ap (λ a. balanced (reader sh) k d s E (n - few) a m) r) v)
 
 -- SUMS
@@ -140,30 +141,30 @@ module _ (sh : List ℕ) (d : ℕ) (s E : List ℕ) (n q p : ℕ) where
 
   module _ (b few : ℕ) (h : b ≡ getD sh p 4) (l : 1 ≤ n) (o : n ≡ 1 → ⊥) (e : few ≡ btree-split-index n) where
     pub chosen-left : (x : Read) → b ≡ 1 → x ≡ chosen (reader sh) d s E few q (p + 1) → x ≡ chosen (reader sh) d s E n q p
-    unfolding reader
+    unfolding reader at-places counts
     chosen-left x f i = here x p (chosen-step (reader sh) d s E n few q e (omega arith)) (sum-left sh p b h _ _ x f i)
 
     pub chosen-right : (x : Read) (rest : ℕ) → b ≡ 2 → rest ≡ hops E few q → x ≡ chosen (reader sh) d s E (n - few) rest (p + 1) → x ≡ chosen (reader sh) d s E n q p
-    unfolding reader
+    unfolding reader at-places counts
     chosen-right x rest f r i = here x p (chosen-step (reader sh) d s E n few q e (omega arith)) (sum-right sh p b h _ _ x f (i ∙ ap (λ a. chosen (reader sh) d s E (n - few) a (p + 1)) r))
 
     pub chosen-no : (b ≡ 1 → ⊥) → (b ≡ 2 → ⊥) → Not ≡ chosen (reader sh) d s E n q p
-    unfolding reader
+    unfolding reader at-places counts
     chosen-no f g = here Not p (chosen-step (reader sh) d s E n few q e (omega arith)) (sum-no sh p b h _ _ f g)
 
 -- LISTS
 
 module _ (sh : List ℕ) (d : ℕ) (s : List ℕ) (n q p b : ℕ) (h : b ≡ getD sh p 4) where
-  pub block-left : (x : Read) → b ≡ 1 → x ≡ units sh (p + 1) → x ≡ block-of (reader sh) d s n q p
-  unfolding reader
+  pub block-left : (x : Read) → b ≡ 1 → x ≡ units counts sh (p + 1) → x ≡ block-of (reader sh) d s n q p
+  unfolding reader at-places counts
   block-left x e f = here x p (block-sum (reader sh) d s [] n q) (sum-left sh p b h _ _ x e f)
 
   pub block-right : (x : Read) (E : List ℕ) → b ≡ 2 → x ≡ balanced (reader sh) Copies d s E n q (p + 1) → x ≡ block-of (reader sh) d s n q p
-  unfolding reader
+  unfolding reader at-places counts
   block-right x E e f = here x p (block-sum (reader sh) d s E n q) (sum-right sh p b h _ _ x e f)
 
   pub block-no : (b ≡ 1 → ⊥) → (b ≡ 2 → ⊥) → Not ≡ block-of (reader sh) d s n q p
-  unfolding reader
+  unfolding reader at-places counts
   block-no f g = here Not p (block-sum (reader sh) d s [] n q) (sum-no sh p b h _ _ f g)
 
 module _ (sh : List ℕ) (d : ℕ) (s : List ℕ) {c : NonZeroPow2Usize} (q p : ℕ) (g : FairBound c) where
@@ -175,8 +176,8 @@ module _ (sh : List ℕ) (d : ℕ) (s : List ℕ) {c : NonZeroPow2Usize} (q p : 
     halved = list-more (reader sh) d s q g (sym v ∙ u)
 
   module _ (o : Bound) (u : o ≡ half-bound (c .0)) (a : NonZeroPow2Usize) (v : o ≡ bounds.Of a) (b : ℕ) (h : b ≡ getD sh p 4) where
-    split : listed (reader sh) d s c q ≡ pairs sh (block-of (reader sh) d s (a .0) q) (listed (reader sh) d s a q)
-    unfolding reader
+    split : listed (reader sh) d s c q ≡ pairs counts sh (block-of (reader sh) d s (a .0) q) (listed (reader sh) d s a q)
+    unfolding reader at-places counts
     split = halved o u a v .same
 
     pub listed-no : (b ≡ 3 → ⊥) → Not ≡ listed (reader sh) d s c q p

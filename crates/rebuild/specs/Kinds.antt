@@ -1,5 +1,5 @@
 -- A shape file in lock step with a type (01, 'Value file'), by the kinds of types: which readers a type is put together from.
--- What a reader answers is left open: `Reads` counts.
+-- What a reader answers is left open, and how it reads: `Places`.
 use mathlib.Core.List.{List, [], _∷_}
 use Prim.Native.Nat.{ℕ, zero, suc, _^_}
 use lib.ListN.{replicate}

@@ -1,4 +1,6 @@
 pub mod Places
+pub mod Taken
+pub mod Answers
 pub mod Counting
 pub mod Counts
 pub mod Model

@@ -19,7 +19,8 @@ ghost use Rattle.types.specs.Trees.{typeOf};
 ghost use Rattle.types.specs.Steps.{Given};
 ghost use Rattle.rebuild.specs.declared.Parts.the-variants.{Types};
 ghost use Rattle.rebuild.specs.ShapeRows.{ShapeTold};
-ghost use Rattle.rebuild.specs.Reads.{plus, units, passes, bit, reader, value-records};
+ghost use Rattle.rebuild.specs.Places.{units, passes, bit};
+ghost use Rattle.rebuild.specs.Reads.{plus, counts, reader, value-records};
 ghost use Rattle.structural.specs.Forms.{most-parts, Stands};
 ghost use Rattle.rebuild.specs.Forms.{most-records, Few, Limits, count-of, surplus-of, form-of, skip, Hopped, GivenParts, standing, balanced, chosen, block-of, listed};
 
@@ -59,7 +60,7 @@ pub enum ShapeAnswer {
 }
 
 // What the parts of a balanced product are, and where they stand in the type file.
-enum Parts {
+pub enum Parts {
     // the bits of an integer, all of them told by its one record
     Bits,
     // the parts of an array, all of them told by the one type below it
@@ -69,7 +70,7 @@ enum Parts {
 }
 
 // How a record is read: not at all, as a product of so many parts, as a sum, as a list, or as a Variant's payload, which is no record of the value.
-enum Form {
+pub enum Form {
     Refused,
     Product(Parts, usize),
     Sum(usize),
@@ -78,7 +79,7 @@ enum Form {
 }
 
 // The form of what a record says; the empty tuple where there is no type.
-fn form_of(h: Head) -> Form
+pub fn form_of(h: Head) -> Form
     ensures { λ r. ⌜ r ≡ form-of h ⌝ }
 {
     match h {
@@ -98,7 +99,7 @@ fn form_of(h: Head) -> Form
 }
 
 // The record at place p of a shape, or no record where the shape has ended.
-fn record_at(shape: &[u8], p: usize) -> u8
+pub fn record_at(shape: &[u8], p: usize) -> u8
     ensures { λ r. ⌜ r ≡ getD (now (shape .entry)) p 4 ⌝ }
 {
     if shape.len() <= p {
@@ -121,7 +122,7 @@ fn plus(n: usize, k: usize, r: Read) -> Read
 
 // Passes over any tree at place p: all but its first record is surplus.
 fn read_any(shape: &[u8], p: usize) -> Read
-    ensures { λ r. ⌜ r ≡ passes (now (shape .entry)) p ⌝ }
+    ensures { λ r. ⌜ r ≡ passes counts (now (shape .entry)) p ⌝ }
 {
     match tree_end(shape, p) {
         TreeEnd::At(next) => Read::Of(next, 0, next - (p + 1)),
@@ -131,7 +132,7 @@ fn read_any(shape: &[u8], p: usize) -> Read
 
 // Reads a unit at place p.
 fn read_unit(shape: &[u8], p: usize) -> Read
-    ensures { λ r. ⌜ r ≡ units (now (shape .entry)) p ⌝ }
+    ensures { λ r. ⌜ r ≡ units counts (now (shape .entry)) p ⌝ }
 {
     if record_at(shape, p) == UNIT {
         return Read::Of(p + 1, 0, 0);
@@ -141,7 +142,7 @@ fn read_unit(shape: &[u8], p: usize) -> Read
 
 // Reads a bit at place p, a left or a right with a unit.
 fn read_bit(shape: &[u8], p: usize) -> Read
-    ensures { λ r. ⌜ r ≡ bit (now (shape .entry)) p ⌝ }
+    ensures { λ r. ⌜ r ≡ bit counts (now (shape .entry)) p ⌝ }
 {
     let side = record_at(shape, p);
     if side == LEFT {
@@ -179,7 +180,7 @@ fn read_record(ty: &[u8], ends: &[usize], at: usize, level: usize, shape: &[u8],
 }
 
 // The record after n parts from record `at` on.
-fn after(ends: &[usize], at: usize, n: usize, parts: Parts) -> usize
+pub fn after(ends: &[usize], at: usize, n: usize, parts: Parts) -> usize
     requires { ⌜ Hopped parts (now ends) n at ⌝ }
     ensures { λ r. ⌜ r ≡ skip parts (now (ends .entry)) n at ⌝ }
 {

@@ -1,4 +1,4 @@
-// The program `replay`: puts the recorded cases of the file `cases` through the seven public entries, and prints for each entry how many cases there are
+// The program `replay`: puts the recorded cases of the file `cases` through the eight public entries, and prints for each entry how many cases there are
 // and how many differ. Of each case the number, the length and every lent byte are compared.
 //
 // The file is the number of its cases, in three bytes, and the cases. A case is a head of 20 bytes and a body of five files:
@@ -9,6 +9,7 @@
 use bytes::copy;
 use check::same;
 use libc::STDOUT_FILENO;
+use niegluk::clean_shape;
 use niegluk::lower;
 use niegluk::part_edit;
 use niegluk::part_read;
@@ -34,8 +35,11 @@ const BODY: usize = 70000;
 // No buffer is longer.
 const ROOM: usize = 65536;
 
-// The entry that edits, which is the last.
+// The entry that edits.
 const EDIT: u8 = 7;
+
+// The last entry.
+const LAST: u8 = 8;
 
 // What the head of a case tells, and where its files start in the body. The entry is 0 where the case cannot be read, or is of no entry.
 struct Case {
@@ -81,7 +85,7 @@ fn unreadable() -> Case
 
 // The entry of a head's first byte.
 fn entry_of(b: u8) -> u8 {
-    if EDIT < b { 0 } else { b }
+    if LAST < b { 0 } else { b }
 }
 
 // The case that a head tells.
@@ -160,7 +164,8 @@ fn call(entry: u8, ty: &[u8], file: &[u8], path: &[u8], value: &[u8], out: &mut 
         4 => write_frame(ty, file, out),
         5 => read_frame(ty, file, out),
         6 => part_read(ty, file, path, out),
-        _ => part_edit(ty, out, path, value),
+        7 => part_edit(ty, out, path, value),
+        _ => clean_shape(ty, file, out),
     }
 }
 
@@ -283,5 +288,6 @@ fn main() {
     show(5, b"read_frame");
     show(6, b"part_read");
     show(7, b"part_edit");
+    show(8, b"clean_shape");
     show_unreadable();
 }

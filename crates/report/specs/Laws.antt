@@ -1,11 +1,10 @@
 -- What `job` prints, by what its writer knows at each of its answers.
-use mathlib.Core.Path.{_≡_, refl, sym}
+use mathlib.Core.Path.{_≡_, refl}
 use mathlib.Core.Bool.{false}
 use mathlib.Core.List.{List}
 use Prim.Native.Nat.{ℕ, _<_, _≤_}
 use native.Mathlib.Omega.{arith}
-use lib.ListN.{length, take, drop}
-use lib.Seq.{take-at, length-take-le}
+use lib.ListN.{length, take}
 use borrow.Author.Tests.{lt-ltb, le-ltb}
 use Rattle.model.specs.Structural.{type-records}
 use Rattle.model.specs.Lowering.{lower}
@@ -24,8 +23,7 @@ use Rattle.types.specs.declared.TypeAnswer.the-variants.{Ok, Refused}
 use Rattle.types.specs.Trees.{tree}
 use Rattle.types.specs.Lows.{low}
 use Rattle.structural.specs.Forms as structural
-use Rattle.structural.specs.Writing.{put, Wrote}
-use Rattle.structural.specs.Laws.Writing.{wrote-length}
+use Rattle.structural.specs.Writing.{Wrote}
 use Rattle.table.specs.Tabled.{Tabled}
 use Rattle.value.specs.declared.Checked.{Checked}
 use Rattle.value.specs.declared.Checked.the-variants.{Next, Bad}
@@ -36,24 +34,14 @@ use Rattle.shape.specs.Laws.Whole.{value-ready, value-shaped}
 use Rattle.frame.specs.Forms as frame
 use Rattle.frame.specs.Laws.Files.{frame-room, frame-filed}
 use Rattle.text.specs.Lines.{job-lines, refusal-line}
-use Rattle.text.specs.Laws.Sizes.{job-short, refusal-short}
+use Rattle.text.specs.Laws.Sizes.{job-short}
+use Rattle.text.specs.Laws.Refusals.{refusal-room}
+use Rattle.text.specs.Laws.Written.{cut-out, wrote-counts}
 use Rattle.io.specs.Counts.{Counts}
 use Rattle.delivery.specs.Lowers.{lower-given, lowers, lowers-small}
 use Rattle.delivery.specs.Values.{value-refused, value-read, value-valid}
 use Rattle.delivery.specs.Frames.{frame-wide}
 use Rattle.report.specs.Job.{most, job, job-text, Accepted, Reported}
-
--- what was written over the front of a buffer is what its length cuts out of it
-pub cut-out : {xs out o : List ℕ} {n : ℕ} → Wrote xs out o n → take n o ≡ xs
-unfolding put
-cut-out {xs} {out} {o} {n} w = rw (w .out, w .len) (take-at xs (drop (length xs) out) (length xs) refl)
-
--- and it counts bytes of it
-pub wrote-counts : {xs out o : List ℕ} {n : ℕ} → length xs ≤ length out → Wrote xs out o n → Counts n o
-wrote-counts {o = o} {n = n} h w =
-    let e = w .len in
-    let f : n ≤ length o = omega (arith, wrote-length w h) in
-    (f, sym (length-take-le n o f))
 
 module _ {s E W val : List ℕ} (a : Accepted s E W val) where
   abbrev records : List ℕ
@@ -135,35 +123,6 @@ text-counts s val h w = record { wrote = w; counts = wrote-counts h w }
 -- as the two promises of `report`
 pub reported : {s val out o : List ℕ} {n : ℕ} → Reported s val out o n → Wrote (job-text s val) out o n × Counts n o
 reported r = (r .wrote, r .counts)
-
-number-small : (x : Refusal) → refusalNumber x ≤ 22
-number-small refusal.TypeLength = omega arith
-number-small refusal.TypeTooLong = omega arith
-number-small refusal.BadRecord = omega arith
-number-small refusal.TooDeep = omega arith
-number-small refusal.NotOneType = omega arith
-number-small refusal.NeverStands = omega arith
-number-small refusal.TooLarge = omega arith
-number-small refusal.ShapeTooLong = omega arith
-number-small refusal.NotOneTree = omega arith
-number-small refusal.NotReconstructed = omega arith
-number-small refusal.NoUnit = omega arith
-number-small refusal.FrameLength = omega arith
-number-small refusal.StrayBit = omega arith
-number-small refusal.PathOdd = omega arith
-number-small refusal.NoSuchPart = omega arith
-number-small refusal.ValueLength = omega arith
-number-small refusal.NotOneValue = omega arith
-number-small refusal.IntegerTooLarge = omega arith
-number-small refusal.ListTooLong = omega arith
-number-small refusal.NoRoom = omega arith
-
--- the line of a refusal is short
-pub refusal-room : (x : Refusal) → length (refusal-line (refusalNumber x)) ≤ 12
-refusal-room x = refusal-short 2 (refusalNumber x) (omega (arith, number-small x))
-
-pub refused-as : {m n : ℕ} {out o : List ℕ} {r : ℕ} → m ≡ n → Wrote (refusal-line m) out o r → Wrote (refusal-line n) out o r
-refused-as e w = rw (← e) w
 
 -- a refusal is printed
 pub refusal-written : (s val : List ℕ) (x : Refusal) {out o : List ℕ} {n : ℕ} → job-text s val ≡ refusal-line (refusalNumber x) → 140000 ≤ length out → Wrote (refusal-line (refusalNumber x)) out o n → Reported s val out o n

@@ -5,32 +5,21 @@ use entries::Read;
 use entries::read_type;
 use frame::write_frame;
 use reply::Refusal;
-use reply::refusal_number;
 use shape::write_shape;
 use structural::write_lowered;
 use table::RECORDS;
 use text::write_job;
-use text::write_refusal;
+use text::write_refused;
 use value::Checked;
 use value::check_file;
 ghost use Prim.Native.Nat.{_≤_};
 ghost use lib.ListN.{length};
 ghost use Rattle.io.specs.Counts.{Counts};
 ghost use Rattle.structural.specs.Writing.{Wrote};
-ghost use Rattle.reply.specs.Numbers.{refusalNumber};
-ghost use Rattle.text.specs.Lines.{refusal-line};
 ghost use Rattle.report.specs.Job.{job-text, Accepted, Printable, Prints, Reported};
 
 // The most bytes that a file may have.
 const MOST: usize = 65536;
-
-// Writes the line of a refusal, and answers its length.
-fn write_refused(x: Refusal, out: &mut [u8]) -> usize
-    requires { ⌜ 140000 ≤ length (now out) ⌝ }
-    ensures { λ r. ⌜ Wrote (refusal-line (refusalNumber x)) (now (out .entry)) (now (out .exit)) r ⌝ }
-{
-    write_refusal(refusal_number(x) as usize, out)
-}
 
 // Writes the three lines of a type that lowers and a value of it, and answers their length.
 fn write_accepted(ty: &[u8], ends: &[usize], widths: &[usize], val: &[u8], out: &mut [u8]) -> usize

@@ -14,16 +14,13 @@ use Rattle.structural.specs.Laws.Forms.{stands-end}
 use Rattle.structural.specs.Laws.Writing.{wrote-none, wrote-set}
 use Rattle.told.specs.declared.Parts.{Parts}
 use Rattle.told.specs.declared.Parts.the-variants.{Copies, Types}
-use Rattle.told.specs.Forms.{Told, standing, after, skip, balanced, chosen, after-at}
+use Rattle.told.specs.Forms.{standing, after, skip, balanced, chosen, after-at}
 use Rattle.told.specs.Laws.Trees.{balanced-none, balanced-one, balanced-step}
 use Rattle.told.specs.Laws.Lists.{chosen-one, chosen-left, chosen-right, block-told, block-none, block-some}
 use Rattle.shape.specs.Forms.{Ready, Placed}
-use Rattle.shape.specs.Laws.Writing.{room-some, ready-room, Stem, left-stem, right-stem, Pair, pair-of}
+use Rattle.shape.specs.Laws.Writing.{ready-room, Stem, left-stem, right-stem, Pair, pair-of}
 
 -- RECORDS
-
-pub ready-some : {t : Told} {out : List ℕ} → Ready t out → 0 < length out
-ready-some {out = out} r = room-some (r .shape) out (r .room)
 
 pub record-fits : (val : List ℕ) (v : ℕ) → v < length val / 36 → length val < 2 ^ 64 → Fits w64 (v + 1)
 record-fits val v h l = omega arith

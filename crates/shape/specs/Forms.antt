@@ -32,13 +32,13 @@ pub record Ready (t : Told) (out : List ℕ) : Type 0 where
   pub told : t ≡ some (shape, end)
   pub room : Room shape out
 
--- the shape that is told was written over the front of a buffer; `next` is the record after its value, and `len` its length
+-- the shape that is told was written over the front of a buffer; `next` is the place after what tells it (a value's records; for `shape_clean` a shape's), and `len` its length
 pub record Placed (t : Told) (before after : List ℕ) (next len : ℕ) : Type 0 where
   pub shape : SValue
   pub told : t ≡ some (shape, next)
   pub wrote : Wrote (shape-records shape) before after len
 
--- the same, where the record after its value is not answered
+-- the same, where that place is not answered
 pub record Shaped (t : Told) (before after : List ℕ) (len : ℕ) : Type 0 where
   pub next : ℕ
   pub placed : Placed t before after next len

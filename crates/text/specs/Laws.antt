@@ -4,3 +4,5 @@ pub mod Lines
 pub mod Decimal
 pub mod Contents
 pub mod Sizes
+pub mod Refusals
+pub mod Written

@@ -1,4 +1,4 @@
--- What `job` prints (01, 'Along the edges', its last paragraph), as ASCII bytes.
+-- The lines that programs print, as ASCII bytes: what `job` does (01, 'Along the edges', its last paragraph), and the line of a refusal.
 -- A line has a name, a space and a number; the contents, where there are any, stand behind one space more; every line ends with a newline.
 use mathlib.Core.List.{List, [], _∷_, _++_, map}
 use Prim.Native.Nat.{ℕ, zero, suc, _+_, _/_, _%_}

@@ -1,7 +1,10 @@
-// The lines that `job` prints, written into a buffer: those of an accepted type and value, or the one of a refusal.
+// The lines that programs print, written into a buffer: those of `job` for an accepted type and value, or the one of a refusal.
+use reply::Refusal;
+use reply::refusal_number;
 ghost use mathlib.Core.Path.{_≡_};
 ghost use Prim.Native.Nat.{_<_, _≤_};
 ghost use lib.ListN.{length};
+ghost use Rattle.reply.specs.Numbers.{refusalNumber};
 ghost use Rattle.structural.specs.Writing.{Wrote};
 ghost use Rattle.text.specs.Lines.{decimal, places, heading, in-digits, in-hex, line, spaced, job-lines, refusal-line, hex-digit as Lines·hex-digit};
 ghost use Rattle.text.specs.Pieces.{shown};
@@ -72,7 +75,7 @@ fn write_heading(name: &[u8], n: usize, out: &mut [u8]) -> usize
 }
 
 // Writes a digit for each record, and answers how many.
-fn write_digits(s: &[u8], out: &mut [u8]) -> usize
+pub fn write_digits(s: &[u8], out: &mut [u8]) -> usize
     requires { ⌜ length (in-digits (now s)) ≤ length (now out) ⌝ }
     ensures { λ r. ⌜ Wrote (in-digits (now (s .entry))) (now (out .entry)) (now (out .exit)) r ⌝ }
 {
@@ -138,11 +141,19 @@ pub fn write_job(lowered: &[u8], shape: &[u8], frame: &[u8], out: &mut [u8]) -> 
 }
 
 // Writes the line of a refusal over the front of `out`, and answers its length; the bytes behind it stay.
-pub fn write_refusal(number: usize, out: &mut [u8]) -> usize
+fn write_refusal(number: usize, out: &mut [u8]) -> usize
     requires { ⌜ length (refusal-line number) ≤ length (now out) ⌝ }
     ensures { λ r. ⌜ Wrote (refusal-line number) (now (out .entry)) (now (out .exit)) r ⌝ }
 {
     let k = write_heading(b"refused", number, out);
     out[k] = NEWLINE;
     k + 1
+}
+
+// Writes the line of a refusal, and answers its length.
+pub fn write_refused(x: Refusal, out: &mut [u8]) -> usize
+    requires { ⌜ 12 ≤ length (now out) ⌝ }
+    ensures { λ r. ⌜ Wrote (refusal-line (refusalNumber x)) (now (out .entry)) (now (out .exit)) r ⌝ }
+{
+    write_refusal(refusal_number(x) as usize, out)
 }

@@ -37,6 +37,16 @@ unsafe extern "C" {
         length: Length,
     ) -> u32;
 
+    pub fn niegluk_clean_shape(
+        ty: Bytes,
+        ty_len: usize,
+        shape: Bytes,
+        shape_len: usize,
+        out: Lent,
+        out_len: usize,
+        length: Length,
+    ) -> u32;
+
     pub fn niegluk_write_frame(
         ty: Bytes,
         ty_len: usize,

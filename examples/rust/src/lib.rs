@@ -146,6 +146,41 @@ pub fn reconstruct(ty: &[u8], shape: &[u8], out: &mut [u8]) -> Result<usize, Ref
     reply(number, length)
 }
 
+/// Cleans a shape: writes it with a unit wherever an empty tuple, an array of 0 or a variant without
+/// parts is read, and all else as it is. It takes the shapes that [`reconstruct`] takes and those
+/// that it refuses with 20, of any type. [`reconstruct`] accepts the result; for a type that lowers
+/// it is what [`write_shape`] makes of that value. A shape that [`reconstruct`] accepts comes back
+/// equal. Never longer than the shape, so at most 65,536 bytes.
+///
+/// # Errors
+///
+/// Numbers 1 to 5, 8, 9, 10 and 17.
+///
+/// ```
+/// // a pair where the empty tuple should stand, beside true
+/// let ty = [5, 0, 0, 2, 5, 0, 0, 0, 1, 0, 0, 0];
+/// let mut out = [0xff; 6];
+/// assert_eq!(niegluk::clean_shape(&ty, &[3, 3, 0, 0, 2, 0], &mut out), Ok(4));
+/// assert_eq!(out, [3, 0, 2, 0, 0xff, 0xff]);
+/// ```
+pub fn clean_shape(ty: &[u8], shape: &[u8], out: &mut [u8]) -> Result<usize, Refusal> {
+    let mut length = 0;
+    // SAFETY: the lengths are the slices', and what is written, `out` and `length`, is `&mut`, so
+    // nothing else overlaps it.
+    let number = unsafe {
+        c::niegluk_clean_shape(
+            ty.as_ptr(),
+            ty.len(),
+            shape.as_ptr(),
+            shape.len(),
+            out.as_mut_ptr(),
+            out.len(),
+            &raw mut length,
+        )
+    };
+    reply(number, length)
+}
+
 /// Writes the frame of a value: its bits, the first the highest of byte 0, and zeros to the end of
 /// the last byte. At most 4,096 bytes, none for a type of width 0.
 ///

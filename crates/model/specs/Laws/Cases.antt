@@ -20,7 +20,7 @@ use Rattle.model.specs.ShapeFiles.{read-shape, shape-of}
 use Rattle.model.specs.ValueFiles.{encode, value-file, same, parse-at, value-of}
 use Rattle.model.specs.Frames.{after, bits, frame, frame-file, from-bits, padding, unframe}
 use Rattle.model.specs.Paths.{steps, span, among, element, in-variant, step, pick-child, follow, found}
-use Rattle.model.specs.Operations.{lowering, lowered, shaped, earlier-reading, reconstructed, framed, unframed, part-read, edited, delivered}
+use Rattle.model.specs.Operations.{lowering, lowered, shaped, earlier-reading, reconstructed, cleaned-shape, framed, unframed, part-read, edited, delivered}
 
 -- HOW A CASE IS WRITTEN
 
@@ -363,7 +363,12 @@ behind n ty =
 
 -- the same with rows 8 and 9
 behind-all : ℕ → List ℕ → List Case
-behind-all n ty = refuses (reconstructed ty long-shape) n ∷ refuses (reconstructed ty []) n ∷ behind n ty
+behind-all n ty =
+    refuses (reconstructed ty long-shape) n
+    ∷ refuses (reconstructed ty []) n
+    ∷ refuses (cleaned-shape ty long-shape) n
+    ∷ refuses (cleaned-shape ty []) n
+    ∷ behind n ty
 
 -- where another file has part in it
 file-pairs : List Case
@@ -377,18 +382,29 @@ file-pairs =
     ∷ refuses (reconstructed large-type (digits 1 0)) 10
     ∷ gives (reconstructed (two-of ++ boolean ++ options 1 ++ never) (digits 5 32010)) (tuple-of 2 ++ bool-is 1 ++ none-is)
     ∷ gives (reconstructed (two-of ++ boolean ++ options 1 ++ large-type) (digits 5 32010)) (tuple-of 2 ++ bool-is 1 ++ none-is)
+    -- so does cleaning
+    ∷ refuses (cleaned-shape never long-tree) 8
+    ∷ refuses (cleaned-shape never []) 9
+    ∷ refuses (cleaned-shape never (digits 1 0)) 10
+    ∷ refuses (cleaned-shape large-type (digits 1 0)) 10
+    ∷ gives (cleaned-shape (two-of ++ nothing ++ options 1 ++ never) (digits 6 330010)) (digits 4 3010)
+    ∷ gives (cleaned-shape (two-of ++ nothing ++ options 1 ++ large-type) (digits 6 330010)) (digits 4 3010)
     -- 1 and 10, 1 and 12, 1 and 20; 5 and 10, 5 and 12, 5 and 20: behind the type in front
     ∷ refuses (reconstructed (boolean ++ 0 ∷ []) (digits 1 0)) 1
     ∷ refuses (unframed after (boolean ++ 0 ∷ []) (hex 1 0x40)) 1
     ∷ refuses (reconstructed (nothing ++ 0 ∷ []) (digits 2 10)) 1
+    ∷ refuses (cleaned-shape (boolean ++ 0 ∷ []) (digits 1 0)) 1
     ∷ refuses (reconstructed (boolean ++ boolean) (digits 1 0)) 5
     ∷ refuses (unframed after (boolean ++ boolean) (hex 1 0x40)) 5
     ∷ refuses (reconstructed (nothing ++ nothing) (digits 2 10)) 5
+    ∷ refuses (cleaned-shape (boolean ++ boolean) (digits 1 0)) 5
     -- 7 and 12: none, behind it 16,640 bits of padding and 7 of the tail
     ∷ refuses (unframed after (options 1 ++ large-type) (replicate 2081 127)) 7
     -- 8 and 9; 8 and 10
     ∷ refuses (reconstructed nothing long-shape) 8
     ∷ refuses (reconstructed boolean long-tree) 8
+    ∷ refuses (cleaned-shape nothing long-shape) 8
+    ∷ refuses (cleaned-shape boolean long-tree) 8
     -- 8 and 20; 9 and 20: a second tree, a byte above 3, a tree cut short
     ∷ refuses (reconstructed no-booleans long-tree) 8
     ∷ refuses (reconstructed nothing (digits 3 100)) 9
@@ -399,6 +415,8 @@ file-pairs =
     ∷ refuses (reconstructed (two-of ++ boolean ++ nothing) (digits 4 3010)) 10
     ∷ refuses (reconstructed (two-of ++ nothing ++ never) (digits 4 3100)) 10
     ∷ refuses (reconstructed (two-of ++ never ++ nothing) (digits 4 3010)) 10
+    ∷ refuses (cleaned-shape (two-of ++ nothing ++ boolean) (digits 4 3100)) 10
+    ∷ refuses (cleaned-shape (two-of ++ boolean ++ nothing) (digits 4 3010)) 10
     -- 11 and 12: a byte too long, and its padding is 1
     ∷ refuses (unframed after boolean (hex 2 0x4000)) 11
     -- 11 and 13; 11 and 14; 11 and 15; 11 and 16
@@ -482,6 +500,9 @@ file-pairs =
     ∷ refuses-first (reconstructed nothing []) 9
     ∷ refuses-first (reconstructed boolean (digits 1 0)) 10
     ∷ refuses-first (reconstructed nothing (digits 2 10)) 20
+    ∷ refuses-first (cleaned-shape nothing long-tree) 8
+    ∷ refuses-first (cleaned-shape nothing []) 9
+    ∷ refuses-first (cleaned-shape boolean (digits 1 0)) 10
     ∷ refuses-first (unframed after boolean []) 11
     ∷ refuses-first (unframed after boolean (hex 1 0x40)) 12
     ∷ refuses-first (part-read after boolean (hex 1 0) (hex 1 0)) 13
@@ -636,6 +657,65 @@ unit-edges =
     ∷ refuses (reconstructed list-4-nothing (digits 6 311010)) 10
     ∷ []
 
+-- Shapes cleaned
+clean-edges : List Case
+clean-edges =
+    -- a left, a right or a pair for an empty tuple, an array of 0, a variant without parts, a payload of one empty tuple; a unit stays
+    gives (cleaned-shape nothing (digits 2 10)) (digits 1 0)
+    ∷ gives (cleaned-shape nothing (digits 2 20)) (digits 1 0)
+    ∷ gives (cleaned-shape nothing (digits 3 300)) (digits 1 0)
+    ∷ gives (cleaned-shape nothing (digits 1 0)) (digits 1 0)
+    ∷ gives (cleaned-shape no-booleans (digits 5 31020)) (digits 1 0)
+    ∷ gives (cleaned-shape variants (digits 4 1300)) (digits 2 10)
+    ∷ gives (cleaned-shape five-variants (digits 5 22210)) (digits 4 2220)
+    ∷ gives (cleaned-shape one-variant (digits 3 300)) (digits 1 0)
+    ∷ gives (cleaned-shape nothing-variant (digits 2 10)) (digits 1 0)
+    -- under a some, on either side, in a tuple of one, in an array
+    ∷ gives (cleaned-shape (options 1 ++ nothing) (digits 3 210)) (digits 2 20)
+    ∷ gives (cleaned-shape (either-of ++ nothing ++ boolean) (digits 3 120)) (digits 2 10)
+    ∷ gives (cleaned-shape (either-of ++ boolean ++ nothing) (digits 3 210)) (digits 2 20)
+    ∷ gives (cleaned-shape (hex 4 0x05000001 ++ nothing) (digits 2 10)) (digits 1 0)
+    ∷ gives (cleaned-shape (hex 4 0x06000002 ++ nothing) (digits 4 3020)) (digits 3 300)
+    -- in the first block of a list, at its first element and its second; in the last block
+    ∷ gives (cleaned-shape list-4-nothing (digits 8 32310010)) (digits 7 3230010)
+    ∷ gives (cleaned-shape list-4-nothing (digits 8 32302010)) (digits 7 3230010)
+    ∷ gives (cleaned-shape list-4-nothing (digits 6 310210)) (digits 5 31020)
+    -- at the first of two spots, at the second, at both; what stands behind a spot, and beside it, is copied
+    ∷ gives (cleaned-shape two-nothings (digits 4 3100)) (digits 3 300)
+    ∷ gives (cleaned-shape two-nothings (digits 5 30300)) (digits 3 300)
+    ∷ gives (cleaned-shape two-nothings (digits 6 310300)) (digits 3 300)
+    ∷ gives (cleaned-shape (two-of ++ nothing ++ boolean) (digits 6 330020)) (digits 4 3020)
+    ∷ gives (cleaned-shape (two-of ++ boolean ++ nothing) (digits 6 320300)) (digits 4 3200)
+    ∷ gives (cleaned-shape u4-nothing-u4 (digits 29 33320103102033102033201031020)) (digits 25 3332010310203033201031020)
+    -- nothing to clean: a side that is not taken holds no spot
+    ∷ gives (cleaned-shape u4-and-list (digits 18 333201031020310220)) (digits 18 333201031020310220)
+    ∷ gives (cleaned-shape list-8 (digits 18 323320103202031010)) (digits 18 323320103202031010)
+    ∷ gives (cleaned-shape (options 1 ++ nothing) (digits 2 10)) (digits 2 10)
+    ∷ gives (cleaned-shape (either-of ++ nothing ++ boolean) (digits 3 220)) (digits 3 220)
+    ∷ gives (cleaned-shape list-4-nothing (digits 5 31010)) (digits 5 31010)
+    -- 10: under a none, a bit or an empty block it is no spot
+    ∷ refuses (cleaned-shape (options 1 ++ nothing) (digits 3 110)) 10
+    ∷ refuses (cleaned-shape option-bool (digits 4 1300)) 10
+    ∷ refuses (cleaned-shape boolean (digits 3 110)) 10
+    ∷ refuses (cleaned-shape list-4-nothing (digits 6 311010)) 10
+    ∷ refuses (cleaned-shape u2 (digits 4 3100)) 10
+    -- 9: a byte above 3; a tree cut short; a second tree
+    ∷ refuses (cleaned-shape nothing (digits 2 14)) 9
+    ∷ refuses (cleaned-shape nothing (digits 2 30)) 9
+    ∷ refuses (cleaned-shape nothing (digits 3 100)) 9
+    -- below another type: an array of 0, of a Never too, and a variant without parts; a payload of two parts; a list of bound 2
+    ∷ gives (cleaned-shape (options 1 ++ no-booleans) (digits 4 2300)) (digits 2 20)
+    ∷ gives (cleaned-shape (hex 4 0x06000000 ++ never) (digits 2 10)) (digits 1 0)
+    ∷ gives (cleaned-shape (two-of ++ five-variants ++ boolean) (digits 6 311020)) (digits 5 31020)
+    ∷ gives (cleaned-shape (hex 16 0x08000001_09000002_05000000_01000000) (digits 6 330010)) (digits 4 3010)
+    ∷ gives (cleaned-shape (hex 8 0x07000002_05000000) (digits 3 220)) (digits 2 20)
+    -- 17: the cleaned shape decides, not the shape
+    ∷ answers (cleaned-shape nothing (digits 2 10)) [] (17, 0, [])
+    ∷ answers (cleaned-shape nothing (digits 3 300)) (hex 1 0xEE) (0, 1, digits 1 0)
+    ∷ answers (cleaned-shape two-nothings (digits 5 31010)) (hex 2 0xEEEE) (17, 0, hex 2 0xEEEE)
+    ∷ answers (cleaned-shape two-nothings (digits 5 31010)) (hex 3 0xEEEEEE) (0, 3, digits 3 300)
+    ∷ []
+
 -- Shapes and values
 shape-edges : List Case
 shape-edges =
@@ -786,7 +866,7 @@ edit-edges =
     ∷ []
 
 edges : List Case
-edges = type-edges ++ unit-edges ++ shape-edges ++ frame-edges ++ read-edges ++ edit-edges
+edges = type-edges ++ unit-edges ++ clean-edges ++ shape-edges ++ frame-edges ++ read-edges ++ edit-edges
 
 -- THE TABLE
 
@@ -795,5 +875,5 @@ table = starred ++ rows ++ pairs ++ traps ++ edges
 
 -- every case of the table holds: the checker computes it from the definitions
 pub computed : all-hold table ≡ true
-unfolding digits-in times same-list holds all-hold starred rows type-pairs behind behind-all file-pairs pairs traps type-edges unit-edges shape-edges frame-edges read-edges edit-edges edges table to-bits of-bits byte-bits bits-of pack fill number in-bytes next next-power-of-two btree-split-index grow btree fold type-records shape-records enum-injection partition-type partition head variant-parts read-type type-of lower has-never over-large inject unfold-tree combine as-enum-leaf reconstruct in-list walk read-shape shape-of encode value-file same parse-at value-of bits frame frame-file from-bits padding unframe steps span among element in-variant step pick-child follow found lowering lowered shaped earlier-reading reconstructed framed unframed part-read edited delivered
+unfolding digits-in times same-list holds all-hold starred rows type-pairs behind behind-all file-pairs pairs traps type-edges unit-edges clean-edges shape-edges frame-edges read-edges edit-edges edges table to-bits of-bits byte-bits bits-of pack fill number in-bytes next next-power-of-two btree-split-index grow btree fold type-records shape-records enum-injection partition-type partition head variant-parts read-type type-of lower has-never over-large inject unfold-tree combine as-enum-leaf reconstruct in-list walk read-shape shape-of encode value-file same parse-at value-of bits frame frame-file from-bits padding unframe steps span among element in-variant step pick-child follow found lowering lowered shaped earlier-reading reconstructed cleaned-shape framed unframed part-read edited delivered
 computed = refl

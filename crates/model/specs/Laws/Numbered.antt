@@ -24,7 +24,7 @@ use Rattle.model.specs.Frames.{Place, width, frame-bytes, from-bits, str
 use Rattle.model.specs.Paths.{steps, found}
 use Rattle.model.specs.Laws.Options.{one-of-all}
 use Rattle.model.specs.Laws.Faults.{Tells, fault-tells, value-verdict}
-use Rattle.model.specs.Operations.{lowering, lowered, shaped, earlier-reading, earlier-reconstructed, reconstructed, framed, unframed, part-read, edited}
+use Rattle.model.specs.Operations.{lowering, lowered, shaped, earlier-reading, earlier-reconstructed, reconstructed, cleaned-shape, framed, unframed, part-read, edited}
 
 -- THE ROWS OF EACH PLACE
 
@@ -232,6 +232,11 @@ earlier-row ty shape = step (earlier-reading ty shape) _ (reading-row ty shape) 
 pub reconstructed-row : (ty shape : List ℕ) → Within (type-rows ++ shape-rows ++ unit-rows) (reconstructed ty shape)
 unfolding reconstructed
 reconstructed-row ty shape = step (earlier-reading ty shape) _ (among refl (reading-row ty shape)) (λ r. row no-unit (lacks-unit (r .type) (r .tree)) _ refl (finished _))
+
+-- cleaning has the rows of the earlier reading
+pub cleaned-row : (ty shape : List ℕ) → Within (type-rows ++ shape-rows) (cleaned-shape ty shape)
+unfolding cleaned-shape
+cleaned-row ty shape = step (earlier-reading ty shape) _ (reading-row ty shape) (λ r. finished _)
 
 module _ (p : Place) where
   pub framed-row : (ty val : List ℕ) → Within (lowering-all ++ value-rows) (framed p ty val)

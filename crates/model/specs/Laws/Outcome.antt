@@ -1,8 +1,9 @@
 -- Laws of outcomes: a chain of steps gives a result only where each of its steps gives one, and no row refuses.
 -- Each law is a case on the step that stands first: where it refuses, the chain refuses with the same number, and no refusal is a result.
-use mathlib.Core.Path.{_≡_, refl, ap}
+use mathlib.Core.Path.{_≡_, refl, sym, ap}
 use mathlib.Core.Bool.{Bool, true, false, _||_, not}
 use mathlib.Core.List.{List, [], _∷_}
+use mathlib.Core.Logic.{_↔_}
 use mathlib.Core.Option.{Option, none, some}
 use Prim.Native.Nat.{ℕ}
 use native.Mathlib.Omega.{arith}
@@ -26,6 +27,11 @@ outcome-step (refused n) f b h = absurd (refused-done n b h)
 -- what is made of a result
 pub outcome-made : {A B : Type 0} (o : Outcome A) (f : A → B) (b : B) → (o >>= λ a. done (f a)) ≡ done b → (a : A) × (o ≡ done a) × (f a ≡ b)
 outcome-made o f b h = let (a, e, k) = outcome-step o (λ a. done (f a)) b h in (a, e, done-injective (f a) b k)
+
+-- and it is refused exactly where there is none
+pub made-refused : {A B : Type 0} (o : Outcome A) (f : A → B) (n : ℕ) → ((o >>= λ a. done (f a)) ≡ refused n) ↔ (o ≡ refused n)
+made-refused (done a) f n = ((λ h. absurd (refused-done n (f a) (sym h))), λ h. absurd (refused-done n a (sym h)))
+made-refused (refused m) f n = ((λ h. cc), λ h. cc)
 
 -- a row before a result: its test does not hold
 pub refuse-step : {A : Type 0} (n : ℕ) (b : Bool) (o : Outcome A) (x : A) → (refuse n b >> o) ≡ done x → (b ≡ false) × (o ≡ done x)

@@ -1,5 +1,5 @@
 -- Laws of the spots of a shape: what two walks make of it agree where they agree at each step, so that a shape is clean exactly if cleaning leaves it as it is,
--- and exactly if no record is left over at its spots. Of a shape that is read, cleaning makes the shape of the value.
+-- and exactly if no record is left over at its spots, which are all that it takes away. Of a shape that is read, cleaning makes the shape of the value.
 use mathlib.Core.Path.{_≡_, refl, sym, ap, ap₂, _∙_}
 use mathlib.Core.Bool.{Bool, true, false, _||_, true≢false}
 use mathlib.Core.List.{List, [], _∷_, _++_, map, map-append}
@@ -26,7 +26,7 @@ use Rattle.model.specs.Laws.Balanced.{btree-leaves, fold-fork, size-left
 use Rattle.model.specs.Laws.Bytes.{to-bits-of-bits}
 use Rattle.model.specs.Laws.Shapes.{reconstruct-inject, count-leaves}
 use Rattle.model.specs.Laws.ShapeFiles.{shape-some}
-use Rattle.model.specs.Laws.Valid.{length-unfold-tree, length-as-tuple, length-combine, leaf-below, choose-index, length-mapM}
+use Rattle.model.specs.Laws.Valid.{length-unfold-tree, length-as-tuple, length-combine, leaf-below, choose-index, length-mapM, reconstruct-valid}
 
 -- TWO WALKS
 
@@ -168,6 +168,17 @@ no-surplus = walks-agree lacking counting (λ s b n. (b ≡ false) ↔ (n ≡ 0)
   lefts = λ s b n h. h;
   rights = λ s b n h. h;
   pairs = λ s t b c n m h k. ((λ e. let (x, y) = or-false b c e in let i = h .0 x in let j = k .0 y in omega arith), λ e. neither b c (h .1 (omega arith)) (k .1 (omega arith)));
+})
+
+-- and cleaning takes away these and nothing else
+pub cleaned-length : (t : Ty) (s : SValue) → length (shape-records (cleaned t s)) + surplus t s ≡ length (shape-records s)
+unfolding shape-records
+cleaned-length = walks-agree cleaning counting (λ s c n. length (shape-records c) + n ≡ length (shape-records s)) (record {
+  spot = λ s. omega (arith, shape-some s);
+  other = λ s. omega arith;
+  lefts = λ s c n h. omega arith;
+  rights = λ s c n h. omega arith;
+  pairs = λ s t c d n m h k. omega (arith, length-append (shape-records s) (shape-records t), length-append (shape-records c) (shape-records d));
 })
 
 unit-kept : (s : SValue) → (not-unit s ≡ false) ↔ (unit ≡ s)
@@ -437,6 +448,13 @@ pub clean-written : (t : Ty) (s : SValue) (v : Value t) → reconstruct t s ≡ 
 clean-written t s v h =
     let e = cleaned-inject t s v h in
     ((λ k. sym (clean-same t s .0 k) ∙ e), λ k. clean-same t s .1 (e ∙ sym k))
+
+-- cleaned, it is read as the same value, and it is clean
+pub cleaned-reads : (t : Ty) (s : SValue) (v : Value t) → reconstruct t s ≡ some v → (reconstruct t (cleaned t s) ≡ some v) × (lacks-unit t (cleaned t s) ≡ false)
+cleaned-reads t s v h =
+    let e = cleaned-inject t s v h in
+    let o = reconstruct-valid t s v h in
+    (ap (reconstruct t) e ∙ reconstruct-inject t v o, ap (λ x. lacks-unit t x) e ∙ written-clean t v o)
 
 -- SIDES NOT TAKEN HOLD NO SPOT: only the side that the shape takes is asked, whatever type the other has
 

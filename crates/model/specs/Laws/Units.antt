@@ -32,7 +32,7 @@ module _ (ty shape : List ℕ) where
     unfolding earlier-reconstructed
     earlier-is = rw e refl
 
-    clean-is : lacks-unit (r .type) (r .tree) ≡ false → reconstructed ty shape ≡ done (value-file (r .type) (r .value))
+    pub clean-is : lacks-unit (r .type) (r .tree) ≡ false → reconstructed ty shape ≡ done (value-file (r .type) (r .value))
     unfolding reconstructed
     clean-is h = rw (e, h) refl
 
@@ -100,13 +100,13 @@ module _ (ty shape : List ℕ) where
   -- THE ACCEPTED SHAPES
 
   -- each is the shape of its value
-  record Accepted (val : List ℕ) : Type 0 where
-    read : Reading
-    reads : Reads ty shape read
-    file : val ≡ value-file (read .type) (read .value)
-    is : shape ≡ shape-file (inject (read .type) (read .value))
+  pub record Accepted (val : List ℕ) : Type 0 where
+    pub read : Reading
+    pub reads : earlier-reading ty shape ≡ done read
+    pub file : val ≡ value-file (read .type) (read .value)
+    pub is : shape ≡ shape-file (inject (read .type) (read .value))
 
-  accepted : (val : List ℕ) → reconstructed ty shape ≡ done val → Accepted val
+  pub accepted : (val : List ℕ) → reconstructed ty shape ≡ done val → Accepted val
   accepted val h = go view
     where
       go : View → Accepted val
@@ -116,7 +116,7 @@ module _ (ty shape : List ℕ) where
           let k = reading-is ty shape r e in
           record {
             read = r;
-            reads = k;
+            reads = e;
             file = done-injective val _ (sym h ∙ clean-is r e l);
             is = shape-written-read shape (r .tree) (k .stands) .0 ∙ ap shape-file (clean-written (r .type) (r .tree) (r .value) (k .gives) .0 l);
           }
@@ -130,14 +130,17 @@ module _ (ty : List ℕ) (b : Bytes ty) (l : TypeLowers ty) (shape : List ℕ) w
     abbrev r : Reading
     r = a .read
 
+    reads : Reads ty shape r
+    reads = reading-is ty shape r (a .reads)
+
     lowers : lowering ty ≡ done (r .type)
-    lowers = l .1 ∙ ap done (done-injective (l .0) _ (sym (known ty (l .0) b (l .1) .says) ∙ a .reads .says))
+    lowers = l .1 ∙ ap done (done-injective (l .0) _ (sym (known ty (l .0) b (l .1) .says) ∙ reads .says))
 
     knows : Known ty (r .type)
     knows = known ty (r .type) b lowers
 
     valid : Valid (r .type) (r .value)
-    valid = reconstruct-valid (r .type) (r .tree) (r .value) (a .reads .gives)
+    valid = reconstruct-valid (r .type) (r .tree) (r .value) (reads .gives)
 
     -- an accepted shape is what the writer makes of its value
     pub accepted-written : shaped ty val ≡ done shape

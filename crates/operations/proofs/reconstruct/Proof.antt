@@ -2,12 +2,13 @@
 -- 20 and the value file's length from `value_records`, so the function's own tests are rows 20 and 17, and where they pass there is room for the writer.
 -- Each answer is one law of `Reconstructs`. Assumes nothing.
 use borrow.Author.Needs.{needs}
-use Rattle.delivery.specs.Reconstructs.{rebuild-bad-type, rebuild-given, rebuild-bad-shape, rebuild-short, rebuild-none, rebuild-no-unit, rebuild-fits, rebuild-no-room, rebuild-ready, rebuild-done}
+use Rattle.delivery.specs.Readings.{type-given, shape-short}
+use Rattle.delivery.specs.Reconstructs.{rebuild-bad-type, rebuild-bad-shape, rebuild-none, rebuild-no-unit, rebuild-fits, rebuild-no-room, rebuild-ready, rebuild-done}
 use Rattle.entries.specs.Given.{ends-count, given-ends, given-refused, given-root}
 use Rattle.operations.proofs.reconstruct.Statement.{statement}
 use Rattle.operations.proofs.reconstruct.Tie as tie
 
-ruleset steps = (rebuild-bad-type, rebuild-given, rebuild-bad-shape, rebuild-short, rebuild-none, rebuild-no-unit, rebuild-fits, rebuild-no-room, rebuild-ready, rebuild-done, ends-count, given-ends, given-refused, given-root, needs)
+ruleset steps = (type-given, shape-short, rebuild-bad-type, rebuild-bad-shape, rebuild-none, rebuild-no-unit, rebuild-fits, rebuild-no-room, rebuild-ready, rebuild-done, ends-count, given-ends, given-refused, given-root, needs)
 
 pub reconstruct-spec : {M : Type 1} → statement M
 reconstruct-spec =

@@ -24,7 +24,9 @@ use Rattle.types.specs.Trees as trees
 use Rattle.rebuild.specs.declared.Read.{Read}
 use Rattle.rebuild.specs.declared.Read.the-variants.{Of, Not}
 use Rattle.rebuild.specs.Kinds.{products, choices, bits, blocks, lists, reads, readers, cases}
-use Rattle.rebuild.specs.Reads.{Reader, plus, next, closed, side, both, passed, units, sums, pairs, passes, fails, one, reader}
+use Rattle.rebuild.specs.Places.{passed, units, sums, pairs, passes, fails, at-places}
+use Rattle.rebuild.specs.Reads.{Reader, plus, next, counts, reader}
+use Rattle.rebuild.specs.Laws.Taken.{UnitTaken, is-unit, no-unit, unit-taken, SumTaken, is-left, is-right, no-sum, sum-taken, PairTaken, is-pair, no-pair, pair-taken}
 
 -- what was read from p on ends within the file, with at most L records of the value for each of the shape, and its surplus is among these
 pub record Within (z L p e n k : ℕ) : Type 0 where
@@ -97,44 +99,41 @@ wider-fits z L p Not h = tt
 -- READERS
 
 module _ (s : List ℕ) (L : ℕ) where
-  pub units-small : Small s L (units s)
-  unfolding units
-  units-small = record { fits = λ p. go p (getD s p 4) refl }
+  pub units-small : Small s L (units counts s)
+  unfolding counts
+  units-small = record { fits = λ p. go p (unit-taken counts s p) }
     where
-      go : (p b : ℕ) → getD s p 4 ≡ b → Fits (length s) L p (closed b (p + 1))
-      go p zero e = none-read (length s) L p (p + 1) 0 (omega arith) (in-file s p 0 e (omega arith)) (omega arith)
-      go p (suc b) e = tt
+      go : (p : ℕ) → UnitTaken counts s p → Fits (length s) L p (units counts s p)
+      go p (is-unit e k) = rw k (none-read (length s) L p (p + 1) 0 (omega arith) (in-file s p 0 e (omega arith)) (omega arith))
+      go p (no-unit e k) = rw k tt
 
-  pub sums-small : {l r : Reader} → Small s L l → Small s L r → Small s L (sums s l r)
-  unfolding sums
-  sums-small {l} {r} f g = record { fits = λ p. go p (getD s p 4) }
+  pub sums-small : {l r : Reader} → Small s L l → Small s L r → Small s L (sums counts s l r)
+  unfolding counts
+  sums-small {l} {r} f g = record { fits = λ p. go p (sum-taken counts s p l r) }
     where
-      go : (p b : ℕ) → Fits (length s) L p (side b l r (p + 1))
-      go p zero = tt
-      go p (suc zero) = from-next-fits (length s) L p (l (p + 1)) (f .fits (p + 1))
-      go p (suc (suc zero)) = from-next-fits (length s) L p (r (p + 1)) (g .fits (p + 1))
-      go p (suc (suc (suc b))) = tt
+      go : (p : ℕ) → SumTaken counts s p l r → Fits (length s) L p (sums counts s l r p)
+      go p (is-left e k) = rw k (from-next-fits (length s) L p (l (p + 1)) (f .fits (p + 1)))
+      go p (is-right e k) = rw k (from-next-fits (length s) L p (r (p + 1)) (g .fits (p + 1)))
+      go p (no-sum e i k) = rw k tt
 
-  pub pairs-small : {l r : Reader} → Small s L l → Small s L r → Small s L (pairs s l r)
-  unfolding pairs
-  pairs-small {l} {r} f g = record { fits = λ p. go p (getD s p 4) }
+  pub pairs-small : {l r : Reader} → Small s L l → Small s L r → Small s L (pairs counts s l r)
+  unfolding counts
+  pairs-small {l} {r} f g = record { fits = λ p. go p (pair-taken counts s p l r) }
     where
-      go : (p b : ℕ) → Fits (length s) L p (both b l r (p + 1))
-      go p zero = tt
-      go p (suc zero) = tt
-      go p (suc (suc zero)) = tt
-      go p (suc (suc (suc zero))) = next-fits (length s) L p (l (p + 1)) r (from-next-fits (length s) L p (l (p + 1)) (f .fits (p + 1))) (λ m. g .fits m)
-      go p (suc (suc (suc (suc b)))) = tt
+      go : (p : ℕ) → PairTaken counts s p l r → Fits (length s) L p (pairs counts s l r p)
+      go p (is-pair e k) = rw k (next-fits (length s) L p (l (p + 1)) r (from-next-fits (length s) L p (l (p + 1)) (f .fits (p + 1))) (λ m. g .fits m))
+      go p (no-pair e k) = rw k tt
 
-  pub passes-small : Small s L (passes s)
-  unfolding passes
+  pub passes-small : Small s L (passes counts s)
+  unfolding passes counts
   passes-small = record { fits = λ p. go p (tree-end-of s p) refl }
     where
-      go : (p : ℕ) (o : TreeEnd) → tree-end-of s p ≡ o → Fits (length s) L p (passed p o)
+      go : (p : ℕ) (o : TreeEnd) → tree-end-of s p ≡ o → Fits (length s) L p (passed counts p o)
       go p (At e) h = let t = tree-end-at (length (drop p s)) s p e (omega arith) h in let a = t .after in none-read (length s) L p e (e - (p + 1)) (t .after) (t .inside) (omega arith)
       go p Nothing h = tt
 
-  pub fails-small : Small s L (fails s)
+  pub fails-small : Small s L (fails counts s)
+  unfolding counts
   fails-small = record { fits = λ p. tt }
 
   abbrev pub Smalls : List Reader → Type 0
@@ -163,27 +162,27 @@ module _ (s : List ℕ) (L : ℕ) where
     fold-small (fork l r) rs h = k _ _ (fold-small l _ (smalls-take (leaves l) rs h)) (fold-small r _ (smalls-drop (leaves l) rs h))
 
   pub products-small : (n : ℕ) (rs : List Reader) → Smalls rs → Small s L (products (reader s) n rs)
-  unfolding products reader
-  products-small n = fold-small (pairs s) (passes s) (λ l r f g. pairs-small f g) passes-small (btree n)
+  unfolding products reader at-places
+  products-small n = fold-small (pairs counts s) (passes counts s) (λ l r f g. pairs-small f g) passes-small (btree n)
 
   pub choices-small : (n : ℕ) (rs : List Reader) → Smalls rs → Small s L (choices (reader s) n rs)
-  unfolding choices reader
-  choices-small n = fold-small (sums s) (fails s) (λ l r f g. sums-small f g) fails-small (btree n)
+  unfolding choices reader at-places
+  choices-small n = fold-small (sums counts s) (fails counts s) (λ l r f g. sums-small f g) fails-small (btree n)
 
   pub bits-small : Small s L (bits (reader s))
-  unfolding reader
+  unfolding reader at-places
   bits-small = sums-small units-small units-small
 
   pub blocks-small : (n : ℕ) {r : Reader} → Small s L r → Small s L (blocks (reader s) n r)
-  unfolding blocks reader
+  unfolding blocks reader at-places
   blocks-small n {r} h = sums-small units-small (products-small n (replicate n r) (smalls-replicate n h))
 
   pub lists-small : (e : ℕ) {r : Reader} → Small s L r → Small s L (lists (reader s) e r)
-  unfolding lists reader
+  unfolding lists reader at-places
   lists-small zero h = blocks-small 1 h
   lists-small (suc e) h = pairs-small (blocks-small (2 ^ suc e) h) (lists-small e h)
 
-  pub one-small : {r : Reader} → Small s L r → Small s (suc L) (one s r)
+  pub one-small : {r : Reader} → Small s L r → Small s (suc L) (λ p. plus 1 0 (r p))
   one-small {r} h = record { fits = λ p. one-fits (length s) L p (r p) (h .fits p) }
 
   pub wider-small : {r : Reader} → Small s L r → Small s (suc L) r
@@ -193,7 +192,7 @@ module _ (s : List ℕ) (L : ℕ) where
 
 module _ (s ty : List ℕ) where
   kids-small : (L : ℕ) (g : ℕ → Ty) (f : ℕ → Walk) → ((p : ℕ) → Small s L (reads (reader s) (g p))) → (n p : ℕ) → Smalls s L (readers (reader s) (kids g f n p))
-  unfolding kids reads reader
+  unfolding kids reads reader at-places counts
   kids-small L g f h zero p = tt
   kids-small L g f h (suc n) p = (h p, kids-small L g f h n (endOf (f p)))
 
@@ -202,12 +201,12 @@ module _ (s ty : List ℕ) where
   held ts = products (reader s) (size ts) (readers (reader s) ts)
 
   cases-small : (L : ℕ) (g : ℕ → Tys) (f : ℕ → Walk) → ((p : ℕ) → Small s L (held (g p))) → (n p : ℕ) → Smalls s L (cases (reader s) (trees.cases g f n p))
-  unfolding trees.cases reads reader
+  unfolding trees.cases reads reader at-places counts
   cases-small L g f h zero p = (h p, tt)
   cases-small L g f h (suc n) p = (h p, cases-small L g f h n (endOf (f p)))
 
   node-small : (L : ℕ) (x : Head) (g : ℕ → Ty) (f : ℕ → Walk) (h : ℕ → Tys) (k : ℕ → Walk) (p : ℕ) → ((q : ℕ) → Small s L (reads (reader s) (g q))) → ((q : ℕ) → Small s L (held (h q))) → Small s (suc L) (reads (reader s) (node x g f h k p))
-  unfolding node reads reader
+  unfolding node reads reader at-places counts
   node-small L Missing g f h k p a b = one-small s L (products-small s L 0 [] tt)
   node-small L Faulty g f h k p a b = one-small s L (products-small s L 0 [] tt)
   node-small L Never g f h k p a b = fails-small s (suc L)
@@ -222,7 +221,7 @@ module _ (s ty : List ℕ) where
   node-small L (Payload n) g f h k p a b = one-small s L (products-small s L 0 [] tt)
 
   payload-small : (L : ℕ) (x : Rec) (g : ℕ → Ty) (f : ℕ → Walk) (p : ℕ) → ((q : ℕ) → Small s L (reads (reader s) (g q))) → Small s L (held (payload x g f p))
-  unfolding payload reads reader
+  unfolding payload reads reader at-places counts
   payload-small L Gone g f p a = products-small s L 0 [] tt
   payload-small L Wrong g f p a = products-small s L 0 [] tt
   payload-small L (Types n) g f p a = products-small s L 0 [] tt
@@ -230,7 +229,7 @@ module _ (s ty : List ℕ) where
   payload-small L (Variant n) g f p a = products-small s L _ _ (kids-small L g f a n p)
 
   mutual
-    unfolding tree reads reader
+    unfolding tree reads reader at-places counts
 
     pub tree-small : (d p : ℕ) → Small s (suc d) (reads (reader s) (tree d ty p))
     tree-small zero p = one-small s 0 (products-small s 0 0 [] tt)

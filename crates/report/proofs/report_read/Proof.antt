@@ -41,7 +41,7 @@ report-read-spec =
     tie.close
     (tie.spec
     (λ c. search needs)
-    (λ c κs. c .before .before .before .before .before .before .before .before .pre .printable .room)
+    (λ c κs. let room = c .before .before .before .before .before .before .before .before .pre .printable .room in omega arith)
     (λ c. search needs)
     (λ c. ends-count (c .before .before .before .before .before .before .before .pre .read))
     (λ c. search needs)
@@ -49,7 +49,7 @@ report-read-spec =
     (λ c. search needs)
     given
     (λ c. search needs)
-    (λ c κs. c .before .before .before .before .before .before .before .before .before .before .before .before .before .pre .printable .room)
+    (λ c κs. let room = c .before .before .before .before .before .before .before .before .before .before .before .before .before .pre .printable .room in omega arith)
     (λ c. search needs)
     both
     (λ c. search needs)

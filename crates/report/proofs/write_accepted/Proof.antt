@@ -1,7 +1,8 @@
 -- The three results fit their buffers, and the lines are those of what the buffers then hold. Assumes nothing.
 use native.Mathlib.Omega.{arith}
 use borrow.Author.Needs.{needs}
-use Rattle.report.specs.Laws.{wrote-counts, lowered-ready, shape-fits, frame-fits, shape-ready, frame-ready, shape-held, frame-held, lines-room, lines-written}
+use Rattle.text.specs.Laws.Written.{wrote-counts}
+use Rattle.report.specs.Laws.{lowered-ready, shape-fits, frame-fits, shape-ready, frame-ready, shape-held, frame-held, lines-room, lines-written}
 use Rattle.report.proofs.write_accepted.Statement.{statement}
 use Rattle.report.proofs.write_accepted.Tie as tie
 

@@ -24,8 +24,8 @@ use Rattle.told.specs.Laws.Rows.{given-copies}
 use Rattle.told.specs.Laws.Trees.{one-given, left-given, right-given, skip-none, skip-sides}
 use Rattle.told.specs.Laws.Lists.{block-told, block-share, Halved, listed-two, listed-more}
 use Rattle.told.specs.Laws.Formed.{BitsTold, ProductTold, SumTold, ListTold, PayloadTold, readable, as-bits, as-product, as-sum, as-list, as-payload}
-use Rattle.shape.specs.Laws.Writing.{ready-as, ready-room, placed-as, placed-length, Stem, stem-start, stem-ready, stem-small, stem-done, Pair, pair-of, pair-start, left-ready, pair-small, pair-fits, right-ready, pair-done, pair-total}
-use Rattle.shape.proofs.Steps.{ready-some, record-fits, none-is, one-is, tree-pair, skip-one, only-is, sum-left, sum-right, block-stem, empty-room, empty-placed}
+use Rattle.shape.specs.Laws.Writing.{ready-as, ready-room, ready-some, placed-as, placed-length, Stem, stem-start, stem-ready, stem-small, stem-done, Pair, pair-of, pair-start, left-ready, pair-small, pair-fits, right-ready, pair-done, pair-total}
+use Rattle.shape.proofs.Steps.{record-fits, none-is, one-is, tree-pair, skip-one, only-is, sum-left, sum-right, block-stem, empty-room, empty-placed}
 use Rattle.shape.proofs.write_block.Reads as write-block
 use Rattle.shape.proofs.write_block.Kinds as write-block-kinds
 use Rattle.shape.proofs.+write_block+write_list+write_record+write_sum+write_tree.Lts-write_block as write-block-lts

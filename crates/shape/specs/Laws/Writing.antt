@@ -35,6 +35,9 @@ ready-as e r = record { shape = r .shape; end = r .end; told = sym e ∙ r .told
 pub ready-room : {t : Told} {out : List ℕ} {x : SValue} {e : ℕ} → Ready t out → t ≡ some (x, e) → Room x out
 ready-room r h = rw (same-shape h (r .told)) (r .room)
 
+pub ready-some : {t : Told} {out : List ℕ} → Ready t out → 0 < length out
+ready-some {out = out} r = room-some (r .shape) out (r .room)
+
 pub placed-as : {t u : Told} {out o : List ℕ} {next len : ℕ} → t ≡ u → Placed u out o next len → Placed t out o next len
 placed-as e w = record { shape = w .shape; told = e ∙ w .told; wrote = w .wrote }
 

@@ -38,7 +38,7 @@ line-short name n contents =
     let s = spaced-short contents in
     omega (arith, length-append (heading name n) (spaced contents ++ (newline ∷ [])), length-append (spaced contents) (newline ∷ []), heading-length name n)
 
-digits-length : (l : List ℕ) → length (in-digits l) ≡ length l
+pub digits-length : (l : List ℕ) → length (in-digits l) ≡ length l
 unfolding in-digits
 digits-length l = go l
   where

@@ -1,9 +1,9 @@
--- The line of a number up to 17 is short. Assumes nothing.
+-- The line of a refusal is short. Assumes nothing.
 use native.Mathlib.Omega.{arith}
 use borrow.Author.Needs.{needs}
-use Rattle.report.specs.Laws.{refusal-room, refused-as}
-use Rattle.report.proofs.write_refused.Statement.{statement}
-use Rattle.report.proofs.write_refused.Tie as tie
+use Rattle.text.specs.Laws.Refusals.{refusal-room, refused-as}
+use Rattle.text.proofs.write_refused.Statement.{statement}
+use Rattle.text.proofs.write_refused.Tie as tie
 
 room : tie.Need-write-refusal-requires
 room c κs =

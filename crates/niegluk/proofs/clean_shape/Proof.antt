@@ -1,0 +1,22 @@
+-- `niegluk::clean_shape` meets its contract: a walk of its MIR, by hand, since it owns a table of structs and lends it. The walk is `entries`' `Walk`, at its parameters and at the operation that it calls, which ensures what the entry does.
+-- Assumes nothing.
+use mathlib.Core.Bool.{false}
+use mathlib.Core.List.{[], _∷_}
+use contract.Running.{tablesOf}
+use Rattle.model.specs.Calls.{CleanShape}
+use Rattle.reply.specs.Numbers.{numberOf, lengthOf}
+use Rattle.entries.proofs.Params.{file, buffer}
+use Rattle.entries.proofs.Forms.{Form, replies}
+use Rattle.entries.proofs.Enter.{enters}
+use Rattle.operations.proofs.clean_shape.Symbol as op
+use Rattle.operations.proofs.clean_shape.Met.{met}
+use Rattle.niegluk.proofs.clean_shape.Key.{name}
+use Rattle.niegluk.proofs.clean_shape.Statement.{statement}
+use Rattle.niegluk.proofs.clean_shape.Code as code
+
+abbrev form : Form
+form = replies (file ∷ buffer ∷ []) false (λ s x y r. CleanShape s (x .0) (x .1 .0) (numberOf r) (lengthOf r) (y .1 .0))
+
+pub clean-shape-spec : {M : Type 1} → statement M
+unfolding code.routine tablesOf
+clean-shape-spec 𝓤 H 𝓜 𝓖 𝓡 = enters 𝓤 H 𝓜 𝓖 𝓡 form code.env name op.name op.routine code.calls-entries·read-type code.calls-operations·clean-shape (met 𝓤 H 𝓜 𝓖 𝓡) (code.unfolded 𝓤 H 𝓜 𝓡) (λ s x. tt)

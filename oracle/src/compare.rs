@@ -5,14 +5,15 @@ use std::sync::atomic::Ordering;
 
 use crate::case::{Answer, Case};
 use crate::expect::{outcome, value_before, Entry, Outcome, ENTRIES, NUMBERS};
-use crate::faulty::{FAULT, FAULTS};
+use crate::faulty::{FAULT, FAULTS, FIRST_OF_PAIRS};
 use crate::generate::{random_case, random_room, Scale};
 use crate::library;
+use crate::pairs::pairs;
 use crate::random::Random;
 use crate::shrink::shrink;
 
 /// So many cases that differ are shrunk and printed.
-const MOST_SHOWN: u64 = 3;
+pub const MOST_SHOWN: u64 = 3;
 
 /// The counts of one entry: by number, 0 where accepted.
 #[derive(Clone, Copy, Default)]
@@ -37,8 +38,8 @@ impl Counts {
 
 /// What went wrong with a case, if anything.
 pub enum Trouble {
-    /// The published code and the plain one differ, or the two that number a value file or a shape, or a cleaned shape is
-    /// not what it must be, or one panics.
+    /// The published code and the plain one differ, or the two that number a value file or a shape, or a cleaned shape or
+    /// what two edits leave is not what it must be, or one panics.
     Ourselves(String),
     Library(String),
 }
@@ -51,7 +52,7 @@ impl Trouble {
     }
 }
 
-fn caught<T>(what: &str, f: impl FnOnce() -> T) -> Result<T, String> {
+pub fn caught<T>(what: &str, f: impl FnOnce() -> T) -> Result<T, String> {
     catch_unwind(AssertUnwindSafe(f)).map_err(|cause| {
         let text = cause.downcast_ref::<String>().cloned();
         let text = text.or_else(|| cause.downcast_ref::<&str>().map(|s| s.to_string()));
@@ -173,14 +174,24 @@ pub fn compare(entries: &[Entry], seed: u64, count: u64, trace: Option<&str>) ->
     tally.finish()
 }
 
-/// Runs random cases against each fault; true if every fault is found and nothing else.
+/// Runs random cases against each fault, and random pairs against the faults of two edits and against none; true if every
+/// fault is found and nothing else. Pairs must find the faults of two edits.
 pub fn try_faults(seed: u64, count: u64) -> bool {
     let mut good = true;
     for (fault, name) in FAULTS.iter().enumerate() {
         println!("FAULT {fault}: {name}");
         FAULT.store(fault, Ordering::Relaxed);
-        let found = !compare(&ENTRIES, seed, count, None);
-        good &= found == (fault > 0);
+        let of_pairs = fault >= FIRST_OF_PAIRS;
+        let by_cases = !compare(&ENTRIES, seed, count, None);
+        let by_pairs = (fault == 0 || of_pairs).then(|| !pairs(seed, count / 5));
+        good &= match by_pairs {
+            Some(found) if of_pairs => found,
+            Some(found) => !found && !by_cases,
+            None => by_cases,
+        };
+        let found = |found: bool| if found { "found" } else { "not found" };
+        let by_pairs = by_pairs.map_or("not tried", found);
+        println!("fault {fault}: {} by cases, {by_pairs} by pairs\n", found(by_cases));
     }
     FAULT.store(0, Ordering::Relaxed);
     println!("{}", if good { "all faults are found" } else { "a fault is not found" });

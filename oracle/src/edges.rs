@@ -3,6 +3,7 @@
 use crate::case::Case;
 use crate::expect::Entry::{self, *};
 use crate::expect::{Outcome, ENTRIES};
+use crate::pairs::{Edit, Pair, PairEdge};
 
 /// A case and its result with this buffer.
 pub struct Edge {
@@ -685,4 +686,186 @@ pub fn edges() -> [Group; 2] {
         Group { entries, short, long: of(&[long_ones]) },
         Group { entries: later, short: of(&[cleaned_shapes]), long: of(&[long_cleaned_shapes]) },
     ]
+}
+
+/// A sorting job: (u8 recipe, List of (u16, u8) hits bound 8, Option u16 density). Its frame has 196 bits: the recipe from
+/// bit 0 on, the blocks of four, two and one hits from 8, 105 and 154 on, the density from 179 on.
+const JOB: [(u8, u16); 8] = [(5, 3), (2, 8), (7, 8), (5, 2), (2, 16), (2, 8), (4, 0), (2, 16)];
+
+/// The job (0x2a, [(0x1234, 0x56)], some 0x0203), and the job (0x2a, [(0x1234, 0x56), (1, 0xff), (0xabcd, 0xef)], none).
+const ONE_HIT: &str = "2a 000000000000 000000000000 000000000000 22468ad02030";
+const THREE_HITS: &str = "2a 000000000000 000000000000 448d1580007f f579bde00000";
+
+/// Bytes of two hexadecimal digits each.
+fn bytes(text: &str) -> Vec<u8> {
+    let digits: Vec<u32> = text.chars().filter_map(|c| c.to_digit(16)).collect();
+    digits.chunks(2).map(|pair| (pair[0] * 16 + pair[1]) as u8).collect()
+}
+
+fn integer(bits: u16, n: u16) -> Vec<u8> {
+    let mut record = val(&[(2, 0, bits, n as u8)]);
+    record[34] = (n >> 8) as u8;
+    record
+}
+
+fn hit(position: u16, kind: u16) -> Vec<u8> {
+    [val(&[(5, 0, 2, 0)]), integer(16, position), integer(8, kind)].concat()
+}
+
+fn hits(all: &[(u16, u16)]) -> Vec<u8> {
+    let hits = all.iter().flat_map(|&(position, kind)| hit(position, kind));
+    val(&[(7, 0, all.len() as u16, 0)]).into_iter().chain(hits).collect()
+}
+
+fn density(n: u16) -> Vec<u8> {
+    [val(&[(4, 1, 0, 0)]), integer(16, n)].concat()
+}
+
+struct PairEdges(Vec<PairEdge>);
+
+impl PairEdges {
+    /// A frame, two edits of it, the frames that each leaves alone and that each leaves after the other.
+    fn put(
+        &mut self,
+        name: &'static str,
+        (records, frame): (&[(u8, u16)], &str),
+        edits: [(&[u16], Vec<u8>); 2],
+        alone: [Result<&str, u32>; 2],
+        after: [Result<&str, u32>; 2],
+    ) {
+        let edits = edits.map(|(path, new)| Edit { path: steps(path), new });
+        let pair = Pair { ty: ty(records), frame: bytes(frame), edits, fill: 0xa5 };
+        let [alone, after] = [alone, after].map(|all| all.map(|told| told.map(bytes)));
+        self.0.push(PairEdge { name, pair, alone, after });
+    }
+}
+
+/// Camera and density sensor edit a job.
+fn pairs_of_a_job(e: &mut PairEdges) {
+    let one = (&JOB[..], ONE_HIT);
+    let three = (&JOB[..], THREE_HITS);
+    let none = || val(&[(4, 0, 0, 0)]);
+    let two_hits = || hits(&[(0x1234, 0x56), (1, 0xff)]);
+    let with_two = Ok("2a 000000000000 000000000000 448d1580007f c00000102030");
+    let without_hits = Ok("2a 000000000000 000000000000 000000000000 000000102030");
+    let without_density = Ok("2a 000000000000 000000000000 000000000000 22468ac00000");
+    let beef = Ok("2a 000000000000 000000000000 000000000000 22468adbeef0");
+    let recipe_255 = Ok("ff 000000000000 000000000000 000000000000 22468ad02030");
+
+    let both = Ok("2a 000000000000 000000000000 448d1580007f c00000000000");
+    e.put("hits, density", one, [(&[1], two_hits()), (&[2], none())], [with_two, without_density], [both; 2]);
+    let both = Ok("2a 000000000000 000000000000 448d1580007f c000001beef0");
+    let edits: [(&[u16], _); 2] = [(&[1], two_hits()), (&[2, 0], integer(16, 0xbeef))];
+    e.put("hits, the density's number", one, edits, [with_two, beef], [both; 2]);
+    let both = Ok("ff 000000000000 000000000000 000000000000 000000102030");
+    let edits: [(&[u16], _); 2] = [(&[0], integer(8, 255)), (&[1], hits(&[]))];
+    e.put("recipe, no hits", one, edits, [recipe_255, without_hits], [both; 2]);
+    e.put(
+        "the two numbers of a hit",
+        one,
+        [(&[1, 0, 0], integer(16, 0xffff)), (&[1, 0, 1], integer(8, 0))],
+        [
+            Ok("2a 000000000000 000000000000 000000000000 3fffead02030"),
+            Ok("2a 000000000000 000000000000 000000000000 224680102030"),
+        ],
+        [Ok("2a 000000000000 000000000000 000000000000 3fffe0102030"); 2],
+    );
+    e.put(
+        "hits in two blocks",
+        three,
+        [(&[1, 1], hit(0, 0)), (&[1, 2], hit(0x8000, 1))],
+        [
+            Ok("2a 000000000000 000000000000 448d15800000 3579bde00000"),
+            Ok("2a 000000000000 000000000000 448d1580007f f00000200000"),
+        ],
+        [Ok("2a 000000000000 000000000000 448d15800000 300000200000"); 2],
+    );
+    e.put(
+        "density, a fourth hit",
+        three,
+        [(&[2], density(1)), (&[1], hits(&[(1, 1), (2, 2), (3, 3), (4, 4)]))],
+        [
+            Ok("2a 000000000000 000000000000 448d1580007f f579bdf00010"),
+            Ok("2a 800080800101 000181800202 000000000000 000000000000"),
+        ],
+        [Ok("2a 800080800101 000181800202 000000000000 000000100010"); 2],
+    );
+
+    let edits: [(&[u16], _); 2] = [(&[1], two_hits()), (&[1], hits(&[]))];
+    e.put("hits twice", one, edits, [with_two, without_hits], [without_hits, with_two]);
+    let edits: [(&[u16], _); 2] = [(&[2], none()), (&[2], density(0xbeef))];
+    e.put("density twice", one, edits, [without_density, beef], [beef, without_density]);
+
+    let edits: [(&[u16], _); 2] = [(&[2], density(0x0203)), (&[1, 0], hit(0x1234, 0x56))];
+    e.put("to what is there", one, edits, [Ok(ONE_HIT); 2], [Ok(ONE_HIT); 2]);
+    let whole = [val(&[(5, 0, 3, 0)]), integer(8, 0x2a), hits(&[(0x1234, 0x56)]), density(0x0203)].concat();
+    let edits: [(&[u16], _); 2] = [(&[], whole), (&[2, 0], integer(16, 0x0203))];
+    e.put("to what is there, the whole", one, edits, [Ok(ONE_HIT); 2], [Ok(ONE_HIT); 2]);
+
+    let seven = Ok("2a 000000000000 000000000000 000000000000 22468ad00070");
+    let edits: [(&[u16], _); 2] = [(&[2], density(7)), (&[2, 0], integer(16, 0xbeef))];
+    e.put("density, its number", one, edits, [seven, beef], [beef, seven]);
+    let edits: [(&[u16], _); 2] = [(&[2], none()), (&[2, 0], integer(16, 0xbeef))];
+    e.put("no density, its number", one, edits, [without_density, beef], [Err(14), without_density]);
+    let other_hit = Ok("2a 000000000000 000000000000 000000000000 3fffead02030");
+    let edits: [(&[u16], _); 2] = [(&[1, 0], hit(0xffff, 0x56)), (&[1], hits(&[]))];
+    e.put("a hit, no hits", one, edits, [other_hit, without_hits], [without_hits, Err(14)]);
+    let last = Ok("2a 000000000000 000000000000 7fffd580007f c00000102030");
+    let edits: [(&[u16], _); 2] = [(&[1, 0], hit(0xffff, 0x56)), (&[1], two_hits())];
+    e.put("a hit, two hits", one, edits, [other_hit, with_two], [with_two, last]);
+    let bare = [val(&[(5, 0, 3, 0)]), integer(8, 1), hits(&[]), none()].concat();
+    let bare_frame = Ok("01 000000000000 000000000000 000000000000 000000000000");
+    let last = Ok("ff 000000000000 000000000000 000000000000 000000000000");
+    let edits: [(&[u16], _); 2] = [(&[], bare), (&[0], integer(8, 255))];
+    e.put("the whole, recipe", one, edits, [bare_frame, recipe_255], [last, bare_frame]);
+
+    let edits: [(&[u16], _); 2] = [(&[0], integer(8, 256)), (&[2], none())];
+    e.put("a recipe too large", one, edits, [Err(21), without_density], [without_density, Err(21)]);
+    let last = Ok("2a 000000000000 000000000000 448d15bfffc0 000000102030");
+    let edits: [(&[u16], _); 2] = [(&[1, 1], hit(0xffff, 0)), (&[1], two_hits())];
+    e.put("a hit that is not there yet", one, edits, [Err(14), with_two], [with_two, last]);
+}
+
+/// Parts of width 0, and parts under each kind.
+fn pairs_of_kinds(e: &mut PairEdges) {
+    let nothing = || val(&[NOTHING]);
+    let four = |n: u16| integer(4, n);
+    let flag = |choice: u8| val(&[(1, choice, 0, 0)]);
+    let nine = (&[(5, 3), (2, 4), UNIT, (1, 0)][..], "98");
+    let edits: [(&[u16], _); 2] = [(&[1], nothing()), (&[0], four(6))];
+    e.put("() and a u4", nine, edits, [Ok("98"), Ok("68")], [Ok("68"); 2]);
+    let edits: [(&[u16], _); 2] = [(&[2], flag(0)), (&[1], nothing())];
+    e.put("a Boolean and ()", nine, edits, [Ok("90"), Ok("98")], [Ok("90"); 2]);
+    let edits: [(&[u16], _); 2] = [(&[1], nothing()), (&[1], nothing())];
+    e.put("() twice", nine, edits, [Ok("98"); 2], [Ok("98"); 2]);
+    let edits: [(&[u16], _); 2] = [(&[0], nothing()), (&[1], nothing())];
+    e.put("() and ()", (&[(5, 2), UNIT, UNIT], ""), edits, [Ok(""); 2], [Ok(""); 2]);
+    let edits: [(&[u16], _); 2] = [(&[0], val(&[(6, 0, 0, 0)])), (&[1], val(&list(&[1, 0])))];
+    let array = [(5, 2), (6, 0), (2, 8), (7, 4), (2, 1)];
+    e.put("an array of 0 and a list", (&array, "18"), edits, [Ok("18"), Ok("c0")], [Ok("c0"); 2]);
+    let edits: [(&[u16], _); 2] = [(&[0], nothing()), (&[], val(&[(4, 0, 0, 0)]))];
+    e.put("() in a some, none", (&[(4, 0), UNIT], "80"), edits, [Ok("80"), Ok("00")], [Ok("00"), Err(14)]);
+
+    let edits: [(&[u16], _); 2] = [(&[0], four(6)), (&[1], val(&list(&[1, 0, 1])))];
+    e.put("both of a pair", (&PAIR, "9180"), edits, [Ok("6180"), Ok("9d80")], [Ok("6d80"); 2]);
+    let edits: [(&[u16], _); 2] = [(&[2], four(5)), (&[0], four(10))];
+    e.put("in an array", (&[(6, 3), (2, 4)], "1230"), edits, [Ok("1250"), Ok("a230")], [Ok("a250"); 2]);
+    let variant = (&VARIANTS[..], "e0");
+    let edits: [(&[u16], _); 2] = [(&[0], val(&bits(&[0]))), (&[1], flag(1))];
+    e.put("in a variant", variant, edits, [Ok("c0"), Ok("f0")], [Ok("d0"); 2]);
+    let edits: [(&[u16], _); 2] = [(&[], val(&[(8, 0, 1, 0), (2, 0, 1, 1)])), (&[0], val(&bits(&[0])))];
+    e.put("another variant, a part", variant, edits, [Ok("a0"), Ok("c0")], [Ok("80"), Ok("a0")]);
+    let either = (&[(3, 0), (5, 2), (2, 4), (1, 0), (1, 0)][..], "4c");
+    let edits: [(&[u16], _); 2] = [(&[0, 0], four(6)), (&[0, 1], flag(0))];
+    e.put("in a left", either, edits, [Ok("34"), Ok("48")], [Ok("30"); 2]);
+    let edits: [(&[u16], _); 2] = [(&[], val(&[(3, 1, 0, 0), (1, 1, 0, 0)])), (&[0, 0], four(6))];
+    e.put("the other side, a part", either, edits, [Ok("c0"), Ok("34")], [Err(14), Ok("c0")]);
+}
+
+/// Pairs of edits by hand. They are not among the recorded cases.
+pub fn pair_edges() -> Vec<PairEdge> {
+    let mut all = PairEdges(vec![]);
+    pairs_of_a_job(&mut all);
+    pairs_of_kinds(&mut all);
+    all.0
 }

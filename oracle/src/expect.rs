@@ -207,7 +207,8 @@ fn part_read(ty: &Ty, frame: &[u8], path: &[u8]) -> Outcome {
     Ok(file.to_vec())
 }
 
-fn stretch_of_file(part: &Part) -> std::ops::Range<usize> {
+/// The bytes of a part's records in the file of the whole.
+pub fn stretch_of_file(part: &Part) -> std::ops::Range<usize> {
     part.record * 36..(part.record + part.val.records()) * 36
 }
 

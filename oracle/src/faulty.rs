@@ -2,15 +2,19 @@
 
 use std::cmp::Reverse;
 use std::sync::atomic::{AtomicUsize, Ordering};
+use std::sync::Mutex;
 
 use crate::case::{Answer, Case};
-use crate::expect::{outcome, reconstructed, shape_file, value_file, Entry, Outcome};
+use crate::expect::{
+    framed, outcome, reconstructed, shape_file, stretch_of_file, unframed, value_file, Entry, Outcome,
+};
 use crate::first_fault::faults;
+use crate::paths::{follow, width};
 use crate::spots::{met, with_units, Spot};
 use crate::types::{check_lowering, read_type, write_type, Ty};
 use crate::values::{read_value, write_value, Val};
 
-pub const FAULTS: [&str; 36] = [
+pub const FAULTS: [&str; 40] = [
     "no fault",
     "an exact buffer is too short",
     "a length is one too long",
@@ -47,7 +51,17 @@ pub const FAULTS: [&str; 36] = [
     "cleaning leaves an array of 0 as it is",
     "cleaning refuses a type that does not lower",
     "cleaning refuses a buffer before it reads the shape",
+    "an edit of what an edit left puts back all around its part as it was before that one",
+    "an edit of what an edit left counts the records as they were before that one",
+    "a second edit of the same part is refused",
+    "an edit to the value that is there is refused",
 ];
+
+/// The faults from here on are those of two edits on one frame.
+pub const FIRST_OF_PAIRS: usize = 36;
+
+/// The accepted edit before this call: its arguments and what it left.
+static EDIT_BEFORE: Mutex<Option<(Vec<Vec<u8>>, Vec<u8>)>> = Mutex::new(None);
 
 /// The fault at work; the first one is none.
 pub static FAULT: AtomicUsize = AtomicUsize::new(0);
@@ -112,8 +126,54 @@ pub fn answer(case: &Case) -> Answer {
             answer.lent[answer.length..end.max(answer.length)].fill(0);
             answer
         }
-        23.. if case.entry == Entry::CleanShape => case.delivered(miscleaned(case, fault, &right).unwrap_or(right)),
+        23..FIRST_OF_PAIRS if case.entry == Entry::CleanShape => {
+            case.delivered(miscleaned(case, fault, &right).unwrap_or(right))
+        }
+        FIRST_OF_PAIRS.. if case.entry == Entry::PartEdit && right.is_ok() => {
+            let before = EDIT_BEFORE.lock().expect("no call panics here").take();
+            let answer = case.delivered(misedited(case, fault, &right, before).unwrap_or(right));
+            if answer.number == 0 {
+                let edit = (case.args.clone(), answer.lent.clone());
+                *EDIT_BEFORE.lock().expect("no call panics here") = Some(edit);
+            }
+            answer
+        }
         _ => answer,
+    }
+}
+
+/// What one of the faults of two edits makes of an accepted one, where it matters. All but the last are those of an edit
+/// of what the edit before has left.
+fn misedited(case: &Case, fault: usize, right: &Outcome, before: Option<(Vec<Vec<u8>>, Vec<u8>)>) -> Option<Outcome> {
+    if fault == 39 {
+        let there = outcome(Entry::PartRead, &case.args[..3]);
+        return (there.as_ref() == Ok(&case.args[3])).then_some(Err(16));
+    }
+    let (args, _) = before.filter(|(args, left)| args[0] == case.args[0] && *left == case.args[1])?;
+    let ty = read_type(&case.args[0]).ok()?;
+    let (earlier, old) = (unframed(&ty, &args[1]).ok()?, unframed(&ty, &case.args[1]).ok()?);
+    match fault {
+        36 => {
+            let part = follow(&ty, &old, &case.args[2]).ok()?;
+            let mut frame = args[1].clone();
+            for i in part.bit..part.bit + width(part.ty) {
+                let mask = 0x80 >> (i % 8);
+                frame[i / 8] = frame[i / 8] & !mask | right.as_ref().ok()?[i / 8] & mask;
+            }
+            Some(Ok(frame))
+        }
+        37 => {
+            let part = follow(&ty, &earlier, &case.args[2]).ok()?;
+            let stretch = stretch_of_file(&part);
+            let mut file = write_value(&old);
+            if stretch.end > file.len() {
+                return Some(Err(16));
+            }
+            file.splice(stretch, case.args[3].iter().copied());
+            Some(read_value(&ty, &file).map(|val| framed(&ty, &val)))
+        }
+        38 => (args[2] == case.args[2]).then_some(Err(14)),
+        _ => None,
     }
 }
 

@@ -185,7 +185,7 @@ fn long(r: &mut Random) -> Ty {
     }
 }
 
-fn random_type(r: &mut Random, entry: Entry, scale: Scale) -> Ty {
+pub fn random_type(r: &mut Random, entry: Entry, scale: Scale) -> Ty {
     let never = r.pick(&[0, 0, 0, 0, 0, 0, 0, 0, 5, 20]);
     let units = if entry.reads_shape() { r.pick(&[20, 60]) } else { 20 };
     let small = scale == Scale::Small;
@@ -352,7 +352,7 @@ fn random_values<'a>(r: &mut Random, types: impl Iterator<Item = &'a Ty>, budget
     types.map(|t| random_value(r, t, budget)).collect()
 }
 
-fn value_of(r: &mut Random, ty: &Ty, scale: Scale) -> Option<Val> {
+pub fn value_of(r: &mut Random, ty: &Ty, scale: Scale) -> Option<Val> {
     let mut budget = match scale {
         Scale::Small => 55,
         Scale::Any if size(ty) > 10_000 => 70_000,
@@ -588,7 +588,7 @@ fn damage_frame(r: &mut Random, bytes: &mut Vec<u8>) {
 }
 
 /// Changes a path: odd, longer, another index or side.
-fn damage_path(r: &mut Random, bytes: &mut Vec<u8>) {
+pub fn damage_path(r: &mut Random, bytes: &mut Vec<u8>) {
     if bytes.is_empty() || r.percent(30) {
         let step = r.pick(&[0u8, 0, 1, 1, 2, 255]);
         let n = r.pick(&[1, 2, 2, 2, 4, 70]);
@@ -608,7 +608,7 @@ fn damage_path(r: &mut Random, bytes: &mut Vec<u8>) {
 }
 
 /// Changes a value's file: as any file, or anew with faults on purpose.
-fn damage_value(r: &mut Random, bytes: &mut Vec<u8>, value: Option<&(Ty, Val)>) {
+pub fn damage_value(r: &mut Random, bytes: &mut Vec<u8>, value: Option<&(Ty, Val)>) {
     let on_purpose = r.percent(75);
     let value = value.filter(|_| on_purpose);
     match value.and_then(|(ty, val)| spoiled(r, ty, val)) {

@@ -11,6 +11,8 @@ mod frames;
 mod generate;
 mod giants;
 mod library;
+mod pair_cases;
+mod pairs;
 mod paths;
 mod random;
 mod record;
@@ -42,14 +44,15 @@ fn run(args: &[&str]) -> bool {
         ["trace", seed, count, file] => compare::compare(&ENTRIES, number(seed), number(count), Some(file)),
         ["exhaust", records, nodes] => exhaust::exhaust(number(records) as usize, number(nodes) as usize),
         ["giants", seed] => giants::giants(number(seed)),
+        ["pairs", seed, count] => pairs::pairs(number(seed), number(count)),
         ["faults", seed, count] => compare::try_faults(number(seed), number(count)),
         ["survey", seed, count] => survey::survey(number(seed), number(count)),
-        ["edges"] => record::check_edges(),
+        ["edges"] => record::check_edges() & pairs::check_edges(),
         ["record", file, seed, count] => record::record(file, number(seed), number(count) as usize),
         ["show", file] => record::show(file),
         ["replay", file] => record::replay(file),
         _ => {
-            eprintln!("usage: oracle compare SEED COUNT [ENTRY] | trace SEED COUNT FILE | exhaust RECORDS NODES | giants SEED | faults SEED COUNT | survey SEED COUNT | edges | record FILE SEED COUNT | show FILE | replay FILE");
+            eprintln!("usage: oracle compare SEED COUNT [ENTRY] | trace SEED COUNT FILE | exhaust RECORDS NODES | giants SEED | pairs SEED COUNT | faults SEED COUNT | survey SEED COUNT | edges | record FILE SEED COUNT | show FILE | replay FILE");
             false
         }
     }

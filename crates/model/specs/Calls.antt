@@ -2,8 +2,10 @@
 -- The contracts of the entries, of the C functions and of what stands below them say this and nothing else (of the edit: and demand 3, `Edits`). In Rattle the number and the length are
 -- the reply's (`numberOf`, `lengthOf`), in C the result and what stands behind the last pointer.
 use mathlib.Core.Path.{_≡_}
-use mathlib.Core.List.{List}
-use Prim.Native.Nat.{ℕ}
+use mathlib.Core.List.{List, _++_}
+use Prim.Native.Nat.{ℕ, _≤_, _<_}
+use lib.ListN.{length, take, drop}
+use Rattle.model.specs.Numbers.{no-room}
 use Rattle.model.specs.Frames.{after}
 use Rattle.model.specs.Operations.{lowered, shaped, reconstructed, cleaned-shape, framed, unframed, part-read, edited, delivered}
 
@@ -38,3 +40,24 @@ PartRead ty frame path out n len left = (n, len, left) ≡ delivered (part-read 
 -- a call of `part_edit`; its buffer is the frame
 abbrev pub PartEdit : (ty frame path value : List ℕ) → ℕ → ℕ → List ℕ → Type 0
 PartEdit ty frame path value n len left = (n, len, left) ≡ delivered (edited after ty frame path value) frame
+
+-- WHAT IS SAID OF CALLS
+
+-- a call gives a file: lent a buffer that held `before`, it was answered by the number n and the length len, and the buffer held `left` afterwards
+pub record Gives (file before : List ℕ) (n len : ℕ) (left : List ℕ) : Type 0 where
+  -- with room for the file it was accepted, and the file stands over the buffer's front
+  pub fits : length file ≤ length before → (n ≡ 0) × (len ≡ length file) × (left ≡ file ++ drop (length file) before)
+  -- without, it was refused for that, and the buffer is as it was
+  pub too-long : length before < length file → (n ≡ no-room) × (len ≡ 0) × (left ≡ before)
+
+-- the calls of an entry, for one type file: of the file that it reads, what its buffer held before, the number, the length, and what the buffer held afterwards
+abbrev pub Calls : Type 1
+Calls = List ℕ → List ℕ → ℕ → ℕ → List ℕ → Type 0
+
+-- every call on `file`, whatever its buffer, gives `made`
+abbrev pub Makes : Calls → (file made : List ℕ) → Type 0
+Makes Call file made = (before : List ℕ) (n len : ℕ) (left : List ℕ) → Call file before n len left → Gives made before n len left
+
+-- a call of the one entry on `file` was accepted: of the bytes that it left, as many as its length says, every call of the other makes `file` again
+abbrev pub Returns : (One Other : Calls) → (file : List ℕ) → Type 0
+Returns One Other file = (before : List ℕ) (len : ℕ) (left : List ℕ) → One file before 0 len left → Makes Other (take len left) file

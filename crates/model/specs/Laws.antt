@@ -21,6 +21,7 @@ pub mod Parts
 pub mod FileParts
 pub mod Lowering
 pub mod Operations
+pub mod Delivered
 pub mod Demands
 pub mod Cases
 pub mod Numbered

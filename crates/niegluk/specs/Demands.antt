@@ -2,16 +2,12 @@
 -- where a unit belongs (02, R-5); and what cleaning a shape leaves (02, R-6).
 -- A corollary of what is promised of each call (`Calls`) and of the model's laws. Every list here is what a slice of bytes held.
 use mathlib.Core.Path.{_≡_, refl, sym, ap, _∙_}
-use mathlib.Core.Bool.{Bool, true, false}
-use mathlib.Core.List.{List, _++_}
-use Prim.Native.Nat.{ℕ, _≤_, _<_}
+use mathlib.Core.List.{List}
+use Prim.Native.Nat.{ℕ, _≤_}
 use mathlib.Core.Logic.{_↔_}
 use native.Mathlib.Omega.{arith}
-use lib.Dec.{ltb}
-use lib.ListN.{length, take, drop}
-use lib.Seq.{take-at}
-use borrow.Author.Tests.{ltb-true, ltb-false, le-ltb, lt-ltb}
-use Rattle.model.specs.Numbers.{no-unit, no-room}
+use lib.ListN.{length, take}
+use Rattle.model.specs.Numbers.{no-unit}
 use Rattle.model.specs.Outcome.{Outcome, done, refused}
 use Rattle.model.specs.Bytes.{Bytes}
 use Rattle.model.specs.Frames.{after}
@@ -21,92 +17,18 @@ use Rattle.model.specs.ValueFiles.{value-of}
 use Rattle.model.specs.Operations.{lowering, shaped, earlier-reconstructed, reconstructed, cleaned-shape, framed, unframed, delivered}
 use Rattle.model.specs.Conditions.{ShapeBelongs, LacksUnit, TypeLowers, FrameAccepted}
 use Rattle.model.specs.Laws.Outcome.{done-injective}
+use Rattle.model.specs.Laws.Delivered.{parts, refuses, calls, makes, Told, gave, withheld, denied, told, accepted, refused-with}
 use Rattle.model.specs.Laws.Numbered.{never-zero, shaped-row, reconstructed-row, cleaned-row, framed-row, unframed-row}
 use Rattle.model.specs.Laws.Demands.{OneValue, value-has-shape, value-has-frame, shape-reads-back, belonging-shape-reads, frame-reads-back, accepted-frame-reads, frame-accepted}
 use Rattle.model.specs.Laws.Units.{no-unit-row, elsewhere-earlier, accepted-written, accepted-belongs}
 use Rattle.model.specs.Laws.Cleaning.{cleaned-refusals, cleaned-passes, passes-cleaned, never-longer, passing-same, cleaned-again, cleaned-written}
-use Rattle.model.specs.Calls.{WriteShape, Reconstruct, CleanShape, WriteFrame, ReadFrame}
-
--- WHAT IS SAID OF CALLS
-
--- a call gives a file: lent a buffer that held `before`, it was answered by the number n and the length len, and the buffer held `left` afterwards
-pub record Gives (file before : List ℕ) (n len : ℕ) (left : List ℕ) : Type 0 where
-  -- with room for the file it was accepted, and the file stands over the buffer's front
-  pub fits : length file ≤ length before → (n ≡ 0) × (len ≡ length file) × (left ≡ file ++ drop (length file) before)
-  -- without, it was refused for that, and the buffer is as it was
-  pub too-long : length before < length file → (n ≡ no-room) × (len ≡ 0) × (left ≡ before)
-
--- the calls of an entry, for one type file: of the file that it reads, what its buffer held before, the number, the length, and what the buffer held afterwards
-abbrev pub Calls : Type 1
-Calls = List ℕ → List ℕ → ℕ → ℕ → List ℕ → Type 0
-
--- every call on `file`, whatever its buffer, gives `made`
-abbrev pub Makes : Calls → (file made : List ℕ) → Type 0
-Makes Call file made = (before : List ℕ) (n len : ℕ) (left : List ℕ) → Call file before n len left → Gives made before n len left
-
--- a call of the one entry on `file` was accepted: of the bytes that it left, as many as its length says, every call of the other makes `file` again
-abbrev pub Returns : (One Other : Calls) → (file : List ℕ) → Type 0
-Returns One Other file = (before : List ℕ) (len : ℕ) (left : List ℕ) → One file before 0 len left → Makes Other (take len left) file
+use Rattle.model.specs.Calls.{WriteShape, Reconstruct, CleanShape, WriteFrame, ReadFrame, Makes, Returns}
 
 -- FROM OPERATIONS TO CALLS
 
--- the calls of an entry that delivers an operation
-abbrev calls : (List ℕ → Outcome (List ℕ)) → Calls
-calls op file before n len left = (n, len, left) ≡ delivered (op file) before
-
--- a number, a length, and what a buffer held afterwards; two that are equal are so in each part
-abbrev pub Answer : Type 0
-Answer = ℕ × ℕ × List ℕ
-
-pub parts : (x y : Answer) → x ≡ y → (x .0 ≡ y .0) × (x .1 ≡ y .1) × (x .2 ≡ y .2)
-parts x y h = (ap (λ (a : Answer). a .0) h, ap (λ (a : Answer). a .1) h, ap (λ (a : Answer). a .2) h)
-
--- what is delivered of a file with room for it, of one without, and of a refusal
-pub delivers : (o : Outcome (List ℕ)) (file before : List ℕ) → o ≡ done file → length file ≤ length before → delivered o before ≡ (0, length file, file ++ drop (length file) before)
-unfolding delivered
-delivers o file before e l = rw e (rw (le-ltb (length before) (length file) l, delivered) refl)
-
-withholds : (o : Outcome (List ℕ)) (file before : List ℕ) → o ≡ done file → length before < length file → delivered o before ≡ (no-room, 0, before)
-unfolding delivered
-withholds o file before e l = rw e (rw (lt-ltb (length before) (length file) l, delivered) refl)
-
-pub refuses : (o : Outcome (List ℕ)) (m : ℕ) (before : List ℕ) → o ≡ refused m → delivered o before ≡ (m, 0, before)
-unfolding delivered
-refuses o m before e = rw e refl
-
--- where the operation gives a file, every call does
-makes : (op : List ℕ → Outcome (List ℕ)) (file made : List ℕ) → op file ≡ done made → Makes (calls op) file made
-makes op file made e before n len left h = record { fits = λ l. parts _ _ (h ∙ delivers (op file) made before e l); too-long = λ l. parts _ _ (h ∙ withholds (op file) made before e l) }
-
--- where a call was accepted, the operation gives what the call left
-pub accepted : (o : Outcome (List ℕ)) → ((m : ℕ) → o ≡ refused m → 1 ≤ m) → (before : List ℕ) (len : ℕ) (left : List ℕ) → _≡_ {A = Answer} (0, len, left) (delivered o before) → o ≡ done (take len left)
-accepted o rows before len left h = go o refl
-  where
-    room : (file : List ℕ) → o ≡ done file → (t : Bool) → ltb (length before) (length file) ≡ t → o ≡ done (take len left)
-    room file e true l = let (z, _, _) = parts _ _ (h ∙ withholds o file before e (ltb-true (length before) (length file) l)) in absurd (omega arith)
-    room file e false l =
-        let (_, n, x) = parts _ _ (h ∙ delivers o file before e (ltb-false (length before) (length file) l)) in
-        e ∙ ap done (sym (rw (n, x) (take-at file (drop (length file) before) (length file) refl)))
-
-    go : (x : Outcome (List ℕ)) → o ≡ x → o ≡ done (take len left)
-    go (done file) e = room file e (ltb (length before) (length file)) refl
-    go (refused m) e = let (z, _, _) = parts _ _ (h ∙ refuses o m before e) in absurd (omega (arith, rows m e))
-
--- where a call was refused, and not for its buffer, the operation refuses with the call's number
-denied : (o : Outcome (List ℕ)) (before : List ℕ) (n len : ℕ) (left : List ℕ) → (n ≡ 0 → ⊥) → (n ≡ no-room → ⊥) → _≡_ {A = Answer} (n, len, left) (delivered o before) → o ≡ refused n
-denied o before n len left some other h = go o refl
-  where
-    room : (file : List ℕ) → o ≡ done file → (t : Bool) → ltb (length before) (length file) ≡ t → o ≡ refused n
-    room file e true l = absurd (other (parts _ _ (h ∙ withholds o file before e (ltb-true (length before) (length file) l)) .0))
-    room file e false l = absurd (some (parts _ _ (h ∙ delivers o file before e (ltb-false (length before) (length file) l)) .0))
-
-    go : (x : Outcome (List ℕ)) → o ≡ x → o ≡ refused n
-    go (done file) e = room file e (ltb (length before) (length file)) refl
-    go (refused m) e = e ∙ ap refused (sym (parts _ _ (h ∙ refuses o m before e) .0))
-
 -- where one operation turns back what the other gives, so do the calls
 returns : (one other : List ℕ → Outcome (List ℕ)) (file : List ℕ) → ((m : ℕ) → one file ≡ refused m → 1 ≤ m) → ((x : List ℕ) → one file ≡ done x → other x ≡ done file) → Returns (calls one) (calls other) file
-returns one other file rows back before len left h = makes other (take len left) file (back (take len left) (accepted (one file) rows before len left h))
+returns one other file rows back before len left h = makes other (take len left) file (back (take len left) (accepted (one file) before rows len left h))
 
 -- what is read is the one value, which writes the file again
 again : {reads writes : List ℕ → Outcome (List ℕ)} {file : List ℕ} → OneValue reads writes file → (x : List ℕ) → reads file ≡ done x → writes x ≡ done file
@@ -129,7 +51,7 @@ module _ (ty : List ℕ) (b : Bytes ty) where
 
   -- of a type that lowers, no other shape is accepted
   pub shape-accepted : TypeLowers ty → (shape before : List ℕ) (len : ℕ) (left : List ℕ) → Reconstruct ty shape before 0 len left → ShapeBelongs ty shape
-  shape-accepted l shape before len left h = accepted-belongs ty b l shape .0 (take len left, accepted (reconstructed ty shape) (never-zero (reconstructed-row ty shape) refl) before len left h)
+  shape-accepted l shape before len left h = accepted-belongs ty b l shape .0 (take len left, accepted (reconstructed ty shape) before (never-zero (reconstructed-row ty shape) refl) len left h)
 
   -- and what an accepted call of `reconstruct` left, whatever the shape, a call of `write_shape` writes to that shape again
   pub value-returns : TypeLowers ty → (shape : List ℕ) → Returns (Reconstruct ty) (WriteShape ty) shape
@@ -156,7 +78,7 @@ module _ (ty : List ℕ) (b : Bytes ty) where
 module _ (ty shape before : List ℕ) (n len : ℕ) (left : List ℕ) (h : Reconstruct ty shape before n len left) where
   -- a call of `reconstruct` is answered by 20 exactly where the shape is one that the Rust reads and that lacks a unit
   pub no-unit-told : (n ≡ no-unit) ↔ LacksUnit ty shape
-  no-unit-told = ((λ e. no-unit-row ty shape .0 (denied (reconstructed ty shape) before n len left (λ z. omega arith) (λ z. omega arith) h ∙ ap refused e)), λ l. parts _ _ (h ∙ refuses (reconstructed ty shape) no-unit before (no-unit-row ty shape .1 l)) .0)
+  no-unit-told = ((λ e. no-unit-row ty shape .0 (refused-with (reconstructed ty shape) before n len left (λ z. omega arith) (λ z. omega arith) h ∙ ap refused e)), λ l. parts _ _ (h ∙ refuses (reconstructed ty shape) no-unit before (no-unit-row ty shape .1 l)) .0)
 
   -- and elsewhere it was answered, and its buffer left, as by the earlier reading, the Rust's
   pub elsewhere-told : (LacksUnit ty shape → ⊥) → (n, len, left) ≡ delivered (earlier-reconstructed ty shape) before
@@ -175,7 +97,7 @@ module _ (ty shape : List ℕ) where
 
   -- a shape that `reconstruct` accepts comes back equal
   pub clean-keeps : (before : List ℕ) (len : ℕ) (left : List ℕ) → Reconstruct ty shape before 0 len left → Makes (CleanShape ty) shape shape
-  clean-keeps before len left h = makes (cleaned-shape ty) shape shape (passing-same ty shape .0 (take len left, accepted (reconstructed ty shape) (never-zero (reconstructed-row ty shape) refl) before len left h))
+  clean-keeps before len left h = makes (cleaned-shape ty) shape shape (passing-same ty shape .0 (take len left, accepted (reconstructed ty shape) before (never-zero (reconstructed-row ty shape) refl) len left h))
 
   -- for a type that lowers, a call is answered, and its buffer left, as a call of `write_shape` on that value file
   pub clean-as-written : Bytes ty → TypeLowers ty → (val : List ℕ) → earlier-reconstructed ty shape ≡ done val → (before : List ℕ) (n len : ℕ) (left : List ℕ) → CleanShape ty shape before n len left ↔ WriteShape ty val before n len left
@@ -184,20 +106,17 @@ module _ (ty shape : List ℕ) where
   module _ (before : List ℕ) (n len : ℕ) (left : List ℕ) (h : CleanShape ty shape before n len left) where
     -- nothing is longer than it was
     pub clean-length : len ≤ length shape
-    clean-length = go (cleaned-shape ty shape) refl
+    clean-length = go (told (cleaned-shape ty shape) before n len left h)
       where
-        room : (file : List ℕ) → cleaned-shape ty shape ≡ done file → (t : Bool) → ltb (length before) (length file) ≡ t → len ≤ length shape
-        room file e true l = let (_, z, _) = parts _ _ (h ∙ withholds (cleaned-shape ty shape) file before e (ltb-true (length before) (length file) l)) in omega arith
-        room file e false l = let (_, z, _) = parts _ _ (h ∙ delivers (cleaned-shape ty shape) file before e (ltb-false (length before) (length file) l)) in omega (arith, never-longer ty shape file e)
-
-        go : (o : Outcome (List ℕ)) → cleaned-shape ty shape ≡ o → len ≤ length shape
-        go (done file) e = room file e (ltb (length before) (length file)) refl
-        go (refused m) e = let (_, z, _) = parts _ _ (h ∙ refuses (cleaned-shape ty shape) m before e) in omega arith
+        go : Told (cleaned-shape ty shape) before n len left → len ≤ length shape
+        go (gave file e l (_, z, _)) = omega (arith, never-longer ty shape file e)
+        go (withheld file e l (_, z, _)) = omega arith
+        go (denied m e (_, z, _)) = omega arith
 
   -- of what an accepted call left
   module _ (before : List ℕ) (len : ℕ) (left : List ℕ) (h : CleanShape ty shape before 0 len left) where
     cleans : cleaned-shape ty shape ≡ done (take len left)
-    cleans = accepted (cleaned-shape ty shape) (never-zero (cleaned-row ty shape) refl) before len left h
+    cleans = accepted (cleaned-shape ty shape) before (never-zero (cleaned-row ty shape) refl) len left h
 
     -- every call of `reconstruct` makes the value file that the earlier reading gave
     pub clean-reads : (val : List ℕ) × (earlier-reconstructed ty shape ≡ done val) × Makes (Reconstruct ty) (take len left) val

@@ -88,7 +88,7 @@ pub fn write_digits(s: &[u8], out: &mut [u8]) -> usize
 }
 
 // Writes two hexadecimal digits for each byte, and answers how many.
-fn write_hex(s: &[u8], out: &mut [u8]) -> usize
+pub fn write_hex(s: &[u8], out: &mut [u8]) -> usize
     requires { ⌜ length (in-hex (now s)) ≤ length (now out) ⌝ }
     ensures { λ r. ⌜ Wrote (in-hex (now (s .entry))) (now (out .entry)) (now (out .exit)) r ⌝ }
 {

@@ -1,6 +1,6 @@
 -- One table of cases over the operations, bytes in, number and bytes out, that the checker computes from the definitions (`computed`, by refl):
 -- 01's starred cases; for every row of the numbers the smallest input; for two rows that hold at once, the number that comes first;
--- 01's traps; and the other cases along its edges. Every right side is a literal, worked out by hand from 01 and 02.
+-- 01's traps; and the other cases along its edges. A second table has two edits, one after the other (02, R-2). Every right side is a literal, worked out by hand from 01 and 02.
 use mathlib.Core.Path.{_≡_, refl}
 use mathlib.Core.Bool.{Bool, true, false, _&&_}
 use mathlib.Core.List.{List, [], _∷_, _++_, map}
@@ -71,6 +71,18 @@ edits ty frame path val result = answers (edited after ty frame path val) frame 
 
 abbrev edit-refuses : List ℕ → List ℕ → List ℕ → List ℕ → ℕ → Case
 edit-refuses ty frame path val n = answers (edited after ty frame path val) frame (n, 0, frame)
+
+-- two edits that leave x and y alone, in both orders: type, frame, path, value, x, path, value, y; the one frame afterwards
+abbrev either-way : List ℕ → List ℕ → List ℕ → List ℕ → List ℕ → List ℕ → List ℕ → List ℕ → List ℕ → List Case
+either-way ty frame path val x other new y result = edits ty frame path val x ∷ edits ty frame other new y ∷ edits ty x other new result ∷ edits ty y path val result ∷ []
+
+-- two of one part: the second leaves what it leaves alone, in both orders
+abbrev second-only : List ℕ → List ℕ → List ℕ → List ℕ → List ℕ → List ℕ → List ℕ → List Case
+second-only ty frame path val x new y = edits ty frame path val x ∷ edits ty frame path new y ∷ edits ty x path new y ∷ edits ty y path val x ∷ []
+
+-- the value already there is read, and an edit to it leaves the frame
+abbrev stays : List ℕ → List ℕ → List ℕ → List ℕ → List Case
+stays ty frame path val = gives (part-read after ty frame path) val ∷ edits ty frame path val frame ∷ []
 
 same-list : List ℕ → List ℕ → Bool
 same-list [] [] = true
@@ -172,6 +184,10 @@ list-8-u4 = hex 8 0x07000008_02000004
 abbrev u4-and-list : List ℕ
 u4-and-list = hex 16 0x05000002_02000004_07000004_02000001
 
+-- (u4, List of u4 bound 8, Option of u8): a recipe, hits and a density
+abbrev sensors : List ℕ
+sensors = hex 24 0x05000003_02000004_07000008_02000004_04000000_02000008
+
 -- variants none, (u1), (u1, bool)
 abbrev variants : List ℕ
 variants = hex 28 0x08000003_09000000_09000001_02000001_09000002_02000001_01000000
@@ -211,6 +227,9 @@ u1-is = val 2 0 1
 abbrev u4-is : ℕ → List ℕ
 u4-is = val 2 0 4
 
+abbrev u8-is : ℕ → List ℕ
+u8-is = val 2 0 8
+
 abbrev left-of : List ℕ
 left-of = val 3 0 0 0
 
@@ -238,6 +257,10 @@ variant n = val 8 0 n 0
 -- (9, [1]) of u4-and-list
 abbrev nine-and-one : List ℕ
 nine-and-one = tuple-of 2 ++ u4-is 9 ++ list-of 1 ++ u1-is 1
+
+-- [1, 2, 3, 4] of a List of u4
+abbrev four-hits : List ℕ
+four-hits = list-of 4 ++ u4-is 1 ++ u4-is 2 ++ u4-is 3 ++ u4-is 4
 
 -- a record of kind 0: no type has such a value
 abbrev no-value : List ℕ
@@ -877,3 +900,57 @@ table = starred ++ rows ++ pairs ++ traps ++ edges
 pub computed : all-hold table ≡ true
 unfolding digits-in times same-list holds all-hold starred rows type-pairs behind behind-all file-pairs pairs traps type-edges unit-edges clean-edges shape-edges frame-edges read-edges edit-edges edges table to-bits of-bits byte-bits bits-of pack fill number in-bytes next next-power-of-two btree-split-index grow btree fold type-records shape-records enum-injection partition-type partition head variant-parts read-type type-of lower has-never over-large inject unfold-tree combine as-enum-leaf reconstruct in-list walk read-shape shape-of encode value-file same parse-at value-of bits frame frame-file from-bits padding unframe steps span among element in-variant step pick-child follow found lowering lowered shaped earlier-reading reconstructed cleaned-shape framed unframed part-read edited delivered
 computed = refl
+
+-- TWO EDITS OF ONE FRAME (02, R-2)
+
+pub two-edit-table : List Case
+two-edit-table =
+    -- neither part within the other: a part and one of the part beside it; one that changes a list's length
+    either-way u4-and-list (hex 2 0x9180) (hex 2 0) (u4-is 6) (hex 2 0x6180) (hex 4 0x00010000) (u1-is 0) (hex 2 0x9100) (hex 2 0x6100)
+    ++ either-way u4-and-list (hex 2 0x9180) (hex 2 0) (u4-is 6) (hex 2 0x6180) (hex 2 1) (list-of 3 ++ u1-is 1 ++ u1-is 0 ++ u1-is 1) (hex 2 0x9D80) (hex 2 0x6D80)
+    -- (9, [1, 2, 3], none), to four hits and a density of 61
+    ++ either-way sensors (hex 6 0x9000044A6000) (hex 2 1) four-hits (hex 6 0x9891A0000000) (hex 2 2) (some-of ++ u8-is 61) (hex 6 0x9000044A73D0) (hex 6 0x9891A00013D0)
+    -- two elements of one list, of different blocks; neighbours on both sides of a block's end, and in one block
+    ++ either-way list-8-u4 (hex 4 0x891A55AE) (hex 2 0) (u4-is 15) (hex 4 0xF91A55AE) (hex 2 6) (u4-is 0) (hex 4 0x891A55A0) (hex 4 0xF91A55A0)
+    ++ either-way list-8-u4 (hex 4 0x891A55AE) (hex 2 3) (u4-is 15) (hex 4 0x891FD5AE) (hex 2 4) (u4-is 0) (hex 4 0x891A41AE) (hex 4 0x891FC1AE)
+    ++ either-way list-8-u4 (hex 4 0x891A55AE) (hex 2 4) (u4-is 0) (hex 4 0x891A41AE) (hex 2 5) (u4-is 15) (hex 4 0x891A57EE) (hex 4 0x891A43EE)
+    -- of one array; of one variant
+    ++ either-way three-u4 (hex 2 0x1230) (hex 2 0) (u4-is 15) (hex 2 0xF230) (hex 2 2) (u4-is 0) (hex 2 0x1200) (hex 2 0xF200)
+    ++ either-way variants (hex 1 0xE0) (hex 2 0) (u1-is 0) (hex 1 0xC0) (hex 2 1) (bool-is 1) (hex 1 0xF0) (hex 1 0xD0)
+    -- parts of width 0, which lie side by side though their stretches begin at one bit; one beside parts that have bits
+    ++ either-way two-nothings [] (hex 2 0) (tuple-of 0) [] (hex 2 1) (tuple-of 0) [] []
+    ++ either-way u4-nothing-u4 (hex 1 0x96) (hex 2 1) (tuple-of 0) (hex 1 0x96) (hex 2 2) (u4-is 3) (hex 1 0x93) (hex 1 0x93)
+    -- the same part: a number, a list that grows and shrinks, the side of an Either, an Option, a part of width 0, the whole
+    ++ second-only u4-and-list (hex 2 0x9180) (hex 2 0) (u4-is 6) (hex 2 0x6180) (u4-is 3) (hex 2 0x3180)
+    ++ second-only u4-and-list (hex 2 0x9180) (hex 2 1) (list-of 3 ++ u1-is 1 ++ u1-is 0 ++ u1-is 1) (hex 2 0x9D80) (list-of 0) (hex 2 0x9000)
+    ++ second-only u4-or-bool (hex 1 0x48) [] (right-of ++ bool-is 1) (hex 1 0xC0) (left-of ++ u4-is 6) (hex 1 0x30)
+    ++ second-only option-u4 (hex 1 0xC8) [] none-is (hex 1 0x00) (some-of ++ u4-is 6) (hex 1 0xB0)
+    ++ second-only two-nothings [] (hex 2 1) (tuple-of 0) [] (tuple-of 0) []
+    ++ second-only u4-and-list (hex 2 0x9180) [] (tuple-of 2 ++ u4-is 6 ++ list-of 0) (hex 2 0x6000) nine-and-one (hex 2 0x9180)
+    -- the value already there: a part, a part of it, the whole, a part of width 0
+    ++ stays u4-and-list (hex 2 0x9180) (hex 2 1) (list-of 1 ++ u1-is 1)
+    ++ stays u4-and-list (hex 2 0x9180) (hex 4 0x00010000) (u1-is 1)
+    ++ stays u4-and-list (hex 2 0x9180) [] nine-and-one
+    ++ stays u4-nothing-u4 (hex 1 0x96) (hex 2 1) (tuple-of 0)
+    -- one part within the other, the list [1, 0] and its first element 0: the order counts
+    ++ edits u4-and-list (hex 2 0x9180) (hex 2 1) (list-of 2 ++ u1-is 1 ++ u1-is 0) (hex 2 0x9C00)
+    ∷ edits u4-and-list (hex 2 0x9C00) (hex 4 0x00010000) (u1-is 0) (hex 2 0x9800)
+    ∷ edits u4-and-list (hex 2 0x9180) (hex 4 0x00010000) (u1-is 0) (hex 2 0x9100)
+    ∷ edits u4-and-list (hex 2 0x9100) (hex 2 1) (list-of 2 ++ u1-is 1 ++ u1-is 0) (hex 2 0x9C00)
+    -- and the second may be refused
+    ∷ edits u4-and-list (hex 2 0x9180) (hex 2 1) (list-of 0) (hex 2 0x9000)
+    ∷ edit-refuses u4-and-list (hex 2 0x9000) (hex 4 0x00010000) (u1-is 0) 14
+    ∷ edit-refuses u4-or-bool (hex 1 0xC0) (hex 2 0) (u4-is 6) 14
+    -- what is refused alone is refused behind an edit of a part apart, with the same number
+    ∷ edit-refuses sensors (hex 6 0x9000044A6000) (hex 2 0) (u4-is 16) 21
+    ∷ edit-refuses sensors (hex 6 0x9000044A73D0) (hex 2 0) (u4-is 16) 21
+    ∷ edit-refuses sensors (hex 6 0x9000044A6000) (hex 4 0x00010003) (u4-is 15) 14
+    ∷ edit-refuses sensors (hex 6 0x9000044A73D0) (hex 4 0x00010003) (u4-is 15) 14
+    -- behind an edit of the list a fourth hit may be there
+    ∷ edits sensors (hex 6 0x9891A0000000) (hex 4 0x00010003) (u4-is 15) (hex 6 0x9891F8000000)
+    ∷ []
+
+-- and so does every case of two edits
+pub two-edits-computed : all-hold two-edit-table ≡ true
+unfolding digits-in times same-list holds all-hold two-edit-table to-bits of-bits byte-bits bits-of pack fill number in-bytes next next-power-of-two btree-split-index grow btree fold type-records shape-records enum-injection partition-type partition head variant-parts read-type type-of lower has-never over-large inject unfold-tree combine as-enum-leaf reconstruct encode value-file same parse-at value-of bits frame frame-file from-bits padding unframe steps span among element in-variant step pick-child follow found lowering framed unframed part-read edited delivered
+two-edits-computed = refl

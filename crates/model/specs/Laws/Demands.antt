@@ -1,15 +1,14 @@
 -- THE DEMANDS, as theorems about files. A file is a list of bytes; `p` is the place of the padding (01: after).
 -- 1. the two laws of each kind of file. 2. Demand 2. 3. Demand 3. 4. Sizes.
 use mathlib.Core.Path.{_≡_, refl, sym, ap, ap₂, subst, _∙_}
-use mathlib.Core.List.{List, [], _++_, append-nil, append-assoc}
+use mathlib.Core.List.{List, _++_, append-assoc}
 use mathlib.Core.Bool.{true, false}
 use mathlib.Core.Logic.{_↔_}
 use mathlib.Core.Option.{Option, none, some, Option·none-ne-some, Option·some-injective}
 use Prim.Native.Nat.{ℕ, _+_, _*_, _≤_}
 use native.Mathlib.Omega.{arith}
-use lib.ListN.{length, take, drop, drop-of-length-le}
+use lib.ListN.{length, take, drop}
 use lib.Seq.{take-at}
-use borrow.Author.Tests.{le-ltb}
 use Rattle.model.specs.Numbers.{stray-bit, frame-length, no-unit, no-such-part, most-type-records, most-shape-records, deepest}
 use Rattle.model.specs.Outcome.{Outcome, done, refused, _>>=_, _>>_, or-refuse}
 use Rattle.model.specs.Options.{any}
@@ -42,6 +41,7 @@ use Rattle.model.specs.Laws.Parts.{part-there}
 use Rattle.model.specs.Laws.FileParts.{Stands, Leads}
 use Rattle.model.specs.Laws.Lowering.{Known, known}
 use Rattle.model.specs.Laws.Operations.{reading-is, shape-fits, there, replaced-file, part-file, found-leads, part-allowed, stretch-inside, stretch-bits, edited-bits, outside, shaped-is, reconstructed-is, shaped-read, framed-is, unframed-is, Old, unframed-read, framed-read}
+use Rattle.model.specs.Laws.Delivered.{fills, refuses}
 
 -- 1. THE TWO LAWS OF EACH KIND OF FILE: what is written is read as itself; what is read is exactly what the writer makes
 
@@ -303,13 +303,6 @@ module _ (p : Place) (ty : List ℕ) (t : Ty) (k : lowering ty ≡ done t) (q : 
   edit-at : (target : Found) → found t picks old ≡ some target → (val : List ℕ) (new : Value (target .type)) → Bytes val → value-of (target .type) val ≡ done new → (result : List ℕ) × Replaced p ty frame path val target old new result
   edit-at target leads = leads-there target leads (λ f. (val : List ℕ) (new : Value (f .type)) → Bytes val → value-of (f .type) val ≡ done new → (result : List ℕ) × Replaced p ty frame path val f old new result) edit-there
 
--- a result as long as the buffer fills it
-fills : (result buffer : List ℕ) → length result ≡ length buffer → delivered (done result) buffer ≡ (0, length buffer, result)
-unfolding delivered
-fills result buffer n =
-    let d : drop (length result) buffer ≡ [] = drop-of-length-le buffer {i = length result} (omega arith) in
-    rw (le-ltb (length buffer) (length result) (omega arith), delivered) (rw (d, append-nil result, n) refl)
-
 module _ (p : Place) (ty frame path val : List ℕ) where
   -- the chain of the edit's steps, once each is known
   edit-chain : (target : Found) (l : PathLeads p ty frame path target) (new : Value (target .type)) → value-of (target .type) val ≡ done new → edited p ty frame path val ≡ framed p ty (replaced target (l .old) val)
@@ -345,12 +338,11 @@ module _ (p : Place) (ty frame path val : List ℕ) where
         let c = edit-conditions result h in
         let (left, e, g) = edit-leaves (c .2 .0) (c .2 .1) (c .2 .2) in
         let r : left ≡ result = done-injective left result (sym g ∙ h) in
-        ap (λ o. delivered o frame) h ∙ fills result frame (ap length (sym r) ∙ e .size)
+        fills (edited p ty frame path val) result frame h (ap length (sym r) ∙ e .size)
 
     -- refused, it has changed none
     pub edit-refused : (n : ℕ) → edited p ty frame path val ≡ refused n → delivered (edited p ty frame path val) frame ≡ (n, 0, frame)
-    unfolding delivered
-    edit-refused n h = rw h
+    edit-refused n = refuses (edited p ty frame path val) n frame
 
 -- PART READ
 

@@ -159,6 +159,15 @@ module _ (p : Place) where
       headed (encode-choice vs) (encode (enum vs)) (rec 8 0 (index vs c) 0) (child p (enum vs) i c) (enum-headed vs i c (ahead-of-payload p (btree (count vs)) (payloads vs) (index vs c)) (choice-part p vs i c) (choice-index vs i c)) (in-variant vs (index vs c) i (encode-choice vs c ++ rest))
       (inside (encode-choice vs) (encode-choice vs) (λ d. d) (ahead-of-payload p (btree (count vs)) (payloads vs) (index vs c)) (choice-part p vs i c) (λ x. refl) (in-variant vs (index vs c) i (encode-choice vs c ++ rest)) (variant-picks vs i c rest h))
 
+  -- behind the records in front of a child, the child's own stand first
+  pub child-dropped : (t : Ty) (v : Value t) (rest : List Rec) (c : Part (Value t)) (r : Option (Ty × ℕ)) (m : Picked (encode t) c r) → Lies p (Valid t) (frame p t) v c → drop (length (m .front)) (encode t v ++ rest) ≡ encode (c .type) (c .value) ++ (m .back ++ rest)
+  child-dropped t v rest c r m l =
+      ap (λ x. drop (length (m .front)) (encode t x ++ rest)) (sym (l .same)) ∙ ap (λ y. drop (length (m .front)) (y ++ rest)) (m .splits (c .value))
+      ∙ ap (drop (length (m .front))) (regroup (m .front) (encode (c .type) (c .value)) (m .back) rest) ∙ drop-append-seam (m .front) (encode (c .type) (c .value) ++ (m .back ++ rest))
+    where
+      regroup : (a b c d : List Rec) → ((a ++ b) ++ c) ++ d ≡ a ++ (b ++ (c ++ d))
+      regroup a b c d = simp append-assoc
+
   -- A PATH
 
   -- the path leads to the part: from the first of its records to the last
@@ -193,11 +202,6 @@ module _ (p : Place) where
           → Leads (encode t) (bindO o (λ c. mapO (within (c .put) (c .ahead)) (part p (c .type) path (c .value)))) (bindO (pick-child t i (encode t v ++ rest)) (λ c. mapO (behind (c .1)) (follow (c .0) path (drop (c .1) (encode t v ++ rest)))))
       go none e l ih = rw e refl
       go (some c) e l ih =
-          let d : drop (length (e .front)) (encode t v ++ rest) ≡ encode (c .type) (c .value) ++ (e .back ++ rest) =
-          ap (λ x. drop (length (e .front)) (encode t x ++ rest)) (sym (l .same)) ∙ ap (λ y. drop (length (e .front)) (y ++ rest)) (e .splits (c .value))
-          ∙ ap (drop (length (e .front))) (regroup (e .front) (encode (c .type) (c .value)) (e .back) rest) ∙ drop-append-seam (e .front) (encode (c .type) (c .value) ++ (e .back ++ rest)) in
+          let d = child-dropped t v rest c _ e l in
           rw (e .picks) (rw d (deeper (encode (c .type)) (encode t) (c .put) (c .ahead) (e .front) (e .back) (e .splits) (part p (c .type) path (c .value)) (follow (c .type) path (encode (c .type) (c .value) ++ (e .back ++ rest)))
           (ih (c .type) (c .value) (e .back ++ rest) (l .valid))))
-        where
-          regroup : (a b c d : List Rec) → ((a ++ b) ++ c) ++ d ≡ a ++ (b ++ (c ++ d))
-          regroup a b c d = simp append-assoc

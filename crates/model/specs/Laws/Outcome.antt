@@ -19,6 +19,10 @@ refused-done n a h = let z : _≡_ {A = ℕ} 0 1 = cc in omega arith
 pub done-injective : {A : Type 0} (a b : A) → done a ≡ done b → a ≡ b
 done-injective a b h = cc
 
+-- and a refusal has one number
+pub refused-injective : {A : Type 0} (m n : ℕ) → _≡_ {A = Outcome A} (refused m) (refused n) → m ≡ n
+refused-injective m n h = cc
+
 -- two steps that give a result: the first gives one, and the second on it
 pub outcome-step : {A B : Type 0} (o : Outcome A) (f : A → Outcome B) (b : B) → (o >>= f) ≡ done b → (a : A) × (o ≡ done a) × (f a ≡ done b)
 outcome-step (done a) f b h = (a, refl, h)

@@ -46,7 +46,7 @@ digits-length l = go l
     go [] = refl
     go (b ∷ l) = ap suc (go l)
 
-hex-length : (l : List ℕ) → length (in-hex l) ≡ 2 * length l
+pub hex-length : (l : List ℕ) → length (in-hex l) ≡ 2 * length l
 unfolding in-hex hex
 hex-length l = go l
   where

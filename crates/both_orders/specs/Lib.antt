@@ -1,0 +1,2 @@
+-- What the program knows of the answers of the entries that it calls.
+pub mod Laws

@@ -1,0 +1,3 @@
+-- Two edits of one frame (02, R-2).
+pub mod TwoEdits
+pub mod Laws

@@ -100,14 +100,14 @@ const char *niegluk_says(uint32_t number);
  * itself takes, and what a signal's handler does, comes on top; and a larger memset:
  * under ASan lend 8 KiB more. A call touches its stack page by page, so a thread
  * with too little ends at its guard page. */
-#define NIEGLUK_STACK_LOWER 99328
-#define NIEGLUK_STACK_WRITE_SHAPE 98304
-#define NIEGLUK_STACK_RECONSTRUCT 162816
-#define NIEGLUK_STACK_CLEAN_SHAPE 181760
-#define NIEGLUK_STACK_WRITE_FRAME 60416
-#define NIEGLUK_STACK_READ_FRAME 61440
-#define NIEGLUK_STACK_PART_READ 61440
-#define NIEGLUK_STACK_PART_EDIT 61440
+#define NIEGLUK_STACK_LOWER 103424
+#define NIEGLUK_STACK_WRITE_SHAPE 106496
+#define NIEGLUK_STACK_RECONSTRUCT 175104
+#define NIEGLUK_STACK_CLEAN_SHAPE 183296
+#define NIEGLUK_STACK_WRITE_FRAME 62464
+#define NIEGLUK_STACK_READ_FRAME 67584
+#define NIEGLUK_STACK_PART_READ 67584
+#define NIEGLUK_STACK_PART_EDIT 67584
 
 /* Lowers a type: writes the lowered type's records, one byte each (0 a unit, 1 a
  * sum, 2 a product), parent first.

@@ -53,6 +53,12 @@ fn variant(i: usize) -> Vec<Ty> {
     [vec![], vec![Ty::UInt(8)], vec![Ty::Bool, Ty::UInt(32)]][i % 3].clone()
 }
 
+/// A u4 and an Option of a Boolean, none for every third.
+fn pair(i: usize) -> Val {
+    let hit = if i % 3 == 1 { Val::Option(None) } else { somes(1, Val::Bool(i % 2 == 0)) };
+    Val::Tuple(vec![uint(4, i), hit])
+}
+
 pub fn jobs() -> Vec<Job> {
     let deep = |bit| somes(30, Val::Bool(bit));
     vec![
@@ -112,6 +118,27 @@ pub fn jobs() -> Vec<Job> {
             val: Val::Tuple(uints(4, 1023)),
             path: vec![1022],
             new: small(4, 3),
+        },
+        Job {
+            name: "an enum of 1,023",
+            ty: Ty::Enum(vec![vec![]; 1023]),
+            val: Val::Enum(1022, vec![]),
+            path: vec![],
+            new: Val::Enum(0, vec![]),
+        },
+        Job {
+            name: "341 enums of two",
+            ty: Ty::Tuple(vec![Ty::Enum(vec![vec![]; 2]); 341]),
+            val: Val::Tuple((0..341).map(|i| Val::Enum(i % 2, vec![])).collect()),
+            path: vec![340],
+            new: Val::Enum(1, vec![]),
+        },
+        Job {
+            name: "a thousand pairs",
+            ty: array(1000, Ty::Tuple(vec![Ty::UInt(4), options(1, Ty::Bool)])),
+            val: Val::Array((0..1000).map(pair).collect()),
+            path: vec![999, 1, 0],
+            new: Val::Bool(false),
         },
     ]
 }

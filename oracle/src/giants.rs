@@ -1,4 +1,4 @@
-//! Cases at the limits: the most records, the deepest types, the longest values.
+//! Cases at the limits: the most records, the deepest types, the longest values; and values of every number of parts.
 
 use crate::case::Case;
 use crate::compare::Tally;
@@ -92,6 +92,23 @@ fn bad_arguments(r: &mut Random, entry: Entry, ty: &Ty, val: &Val) -> Vec<Vec<Ve
     }
 }
 
+/// Runs every entry on a value of the type, on sound arguments and, if they are wanted, on bad ones.
+fn run_entries(r: &mut Random, tally: &mut Tally, ty: &Ty, bad_too: bool) {
+    let val = random_value(r, ty, &mut MOST.clone()).expect("the type has a value");
+    for entry in ENTRIES {
+        let mut all = vec![arguments(r, entry, ty, &val)];
+        if bad_too {
+            all.extend(bad_arguments(r, entry, ty, &val));
+        }
+        for args in all {
+            let mut case = Case { entry, args, room: 0, fill: r.byte(), plain_fill: false };
+            let short = r.percent(20) as usize;
+            let room = |_: &Case, told: &Outcome| told.as_ref().map_or(9, |result| result.len().saturating_sub(short));
+            tally.run(&mut case, room, None);
+        }
+    }
+}
+
 /// Runs every entry on values of the large types; true if nothing differs.
 pub fn giants(seed: u64) -> bool {
     let mut r = Random::new(seed);
@@ -99,17 +116,30 @@ pub fn giants(seed: u64) -> bool {
     for (name, ty) in types() {
         assert!(check_lowering(&ty).is_ok(), "{name} lowers");
         for _ in 0..VALUES {
-            let val = random_value(&mut r, &ty, &mut MOST.clone()).expect("the type has a value");
-            for entry in ENTRIES {
-                let sound = arguments(&mut r, entry, &ty, &val);
-                for args in [vec![sound], bad_arguments(&mut r, entry, &ty, &val)].concat() {
-                    let mut case = Case { entry, args, room: 0, fill: r.byte(), plain_fill: false };
-                    let short = r.percent(20) as usize;
-                    let room =
-                        |_: &Case, told: &Outcome| told.as_ref().map_or(9, |result| result.len().saturating_sub(short));
-                    tally.run(&mut case, room, None);
-                }
-            }
+            run_entries(&mut r, &mut tally, &ty, true);
+        }
+    }
+    tally.finish()
+}
+
+/// Arrays, and as far as a type file has records for them Tuples and Enums, of n parts.
+fn of_parts(n: usize) -> Vec<Ty> {
+    let mut all = vec![Ty::Array(n, Box::new(Ty::Bool))];
+    if n <= 1_023 {
+        all.extend([Ty::Tuple(vec![Ty::Bool; n]), Ty::Enum(vec![vec![]; n])]);
+    }
+    all
+}
+
+/// Runs every entry on values with n parts or variants, for every n up to and beyond what the table of left sizes has,
+/// and for some that are far beyond it; true if nothing differs.
+pub fn splits(seed: u64) -> bool {
+    let mut r = Random::new(seed);
+    let mut tally = Tally::default();
+    let far = [2_047, 2_048, 2_049, 4_096, 4_097, 8_191, 10_000, 16_383, 16_384];
+    for n in (2..=1_100).chain(far) {
+        for ty in of_parts(n) {
+            run_entries(&mut r, &mut tally, &ty, false);
         }
     }
     tally.finish()

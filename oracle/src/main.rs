@@ -44,6 +44,7 @@ fn run(args: &[&str]) -> bool {
         ["trace", seed, count, file] => compare::compare(&ENTRIES, number(seed), number(count), Some(file)),
         ["exhaust", records, nodes] => exhaust::exhaust(number(records) as usize, number(nodes) as usize),
         ["giants", seed] => giants::giants(number(seed)),
+        ["splits", seed] => giants::splits(number(seed)),
         ["pairs", seed, count] => pairs::pairs(number(seed), number(count)),
         ["faults", seed, count] => compare::try_faults(number(seed), number(count)),
         ["survey", seed, count] => survey::survey(number(seed), number(count)),
@@ -52,7 +53,7 @@ fn run(args: &[&str]) -> bool {
         ["show", file] => record::show(file),
         ["replay", file] => record::replay(file),
         _ => {
-            eprintln!("usage: oracle compare SEED COUNT [ENTRY] | trace SEED COUNT FILE | exhaust RECORDS NODES | giants SEED | pairs SEED COUNT | faults SEED COUNT | survey SEED COUNT | edges | record FILE SEED COUNT | show FILE | replay FILE");
+            eprintln!("usage: oracle compare SEED COUNT [ENTRY] | trace SEED COUNT FILE | exhaust RECORDS NODES | giants SEED | splits SEED | pairs SEED COUNT | faults SEED COUNT | survey SEED COUNT | edges | record FILE SEED COUNT | show FILE | replay FILE");
             false
         }
     }

@@ -1,5 +1,6 @@
 // The acceptance of frames (01, 'Frame'; ported from no Rust file): rows 11 and 12, and how many records the value has that a frame says.
 // A type and a frame are walked together, so that it is known before anything is written whether the value file fits.
+use array::Lefts;
 use array::btree_split_index;
 use num::Bound;
 use num::NonZeroPow2Usize;
@@ -17,6 +18,7 @@ ghost use mathlib.Core.Bool.{false};
 ghost use mathlib.Core.Option.{some};
 ghost use Prim.Native.Nat.{_≤_, _+_, _*_};
 ghost use Rattle.model.specs.Frames.{width};
+ghost use Rattle.array.specs.Lefts.{left-sizes};
 ghost use Rattle.types.specs.Heads.{FairBound};
 ghost use Rattle.types.specs.Steps.{Given};
 ghost use Rattle.types.specs.Trees.{typeOf};
@@ -101,10 +103,12 @@ fn see_record(
     level: usize,
     frame: &[u8],
     bit: usize,
+    lefts: &Lefts,
 ) -> Seen
     requires { ⌜ Stands level (now ty) (now ends) at ⌝ }
     requires { ⌜ Wide (now ty) (now ends) (now widths) ⌝ }
     requires { ⌜ Inside (now frame) bit (width (standing level (now ty) at)) ⌝ }
+    requires { ⌜ now lefts ≡ left-sizes ⌝ }
     ensures { λ r. ⌜ r ≡ answer (seen level (now (ty .entry)) at (now (frame .entry)) bit) ⌝ }
 {
     match form_of(head_at(ty, at)) {
@@ -113,7 +117,18 @@ fn see_record(
         Form::Integer(_) => Seen::Of(1),
         Form::Product(parts, n) => both(
             Seen::Of(1),
-            see_row(ty, ends, widths, at + 1, level - 1, n, parts, frame, bit),
+            see_row(
+                ty,
+                ends,
+                widths,
+                at + 1,
+                level - 1,
+                n,
+                parts,
+                frame,
+                bit,
+                lefts,
+            ),
         ),
         Form::Sum(n) => both(
             Seen::Of(1),
@@ -127,11 +142,22 @@ fn see_record(
                 frame,
                 bit,
                 bit + widths[at],
+                lefts,
             ),
         ),
         Form::List(bound) => both(
             Seen::Of(1),
-            see_list(ty, ends, widths, at + 1, level - 1, bound, frame, bit),
+            see_list(
+                ty,
+                ends,
+                widths,
+                at + 1,
+                level - 1,
+                bound,
+                frame,
+                bit,
+                lefts,
+            ),
         ),
         Form::Payload(n) => {
             see_row(
@@ -144,6 +170,7 @@ fn see_record(
                 Parts::Types,
                 frame,
                 bit,
+                lefts,
             )
         }
     }
@@ -160,10 +187,12 @@ fn see_row(
     parts: Parts,
     frame: &[u8],
     bit: usize,
+    lefts: &Lefts,
 ) -> Seen
     requires { ⌜ GivenParts parts level (now ty) (now ends) n at ⌝ }
     requires { ⌜ Wide (now ty) (now ends) (now widths) ⌝ }
     requires { ⌜ Inside (now frame) bit (row-width parts level (now ty) n at) ⌝ }
+    requires { ⌜ now lefts ≡ left-sizes ⌝ }
     ensures { λ r. ⌜ r ≡ answer (seen-row parts level (now (ty .entry)) n at (now (frame .entry)) bit) ⌝ }
 {
     if is_plain(ty, at, n, parts) {
@@ -174,7 +203,10 @@ fn see_row(
     let mut here = bit;
     let mut left = n;
     while 0 < left {
-        all = both(all, see_record(ty, ends, widths, place, level, frame, here));
+        all = both(
+            all,
+            see_record(ty, ends, widths, place, level, frame, here, lefts),
+        );
         here += widths[place];
         place = after_part(ends, place, parts);
         left -= 1;
@@ -193,21 +225,23 @@ fn see_sum(
     frame: &[u8],
     bit: usize,
     end: usize,
+    lefts: &Lefts,
 ) -> Seen
     requires { ⌜ (1 ≤ n) × (n ≤ most-parts) ⌝ }
     requires { ⌜ GivenParts Types level (now ty) (now ends) n at ⌝ }
     requires { ⌜ Wide (now ty) (now ends) (now widths) ⌝ }
     requires { ⌜ Padded level (now ty) n at (now frame) bit end ⌝ }
+    requires { ⌜ now lefts ≡ left-sizes ⌝ }
     ensures { λ r. ⌜ r ≡ answer (seen-sum level (now (ty .entry)) (now (ends .entry)) n at (now (frame .entry)) bit end) ⌝ }
 {
     if n == 1 {
         let last = bit + widths[at];
         if zeros_at(frame, last, end - last) {
-            return see_record(ty, ends, widths, at, level, frame, bit);
+            return see_record(ty, ends, widths, at, level, frame, bit, lefts);
         }
         return Seen::Stray;
     }
-    let few = btree_split_index(n);
+    let few = btree_split_index(n, lefts);
     if bit_at(frame, bit) {
         let others = n - few;
         return see_sum(
@@ -220,9 +254,10 @@ fn see_sum(
             frame,
             bit + 1,
             end,
+            lefts,
         );
     }
-    see_sum(ty, ends, widths, at, level, few, frame, bit + 1, end)
+    see_sum(ty, ends, widths, at, level, few, frame, bit + 1, end, lefts)
 }
 
 // Sees a block of n of what stands at record `at`: where its tag is 0 it has none, and zeros stand in their place.
@@ -235,10 +270,12 @@ fn see_block(
     n: usize,
     frame: &[u8],
     bit: usize,
+    lefts: &Lefts,
 ) -> Seen
     requires { ⌜ Stands level (now ty) (now ends) at ⌝ }
     requires { ⌜ Wide (now ty) (now ends) (now widths) ⌝ }
     requires { ⌜ Inside (now frame) bit (1 + n * width (standing level (now ty) at)) ⌝ }
+    requires { ⌜ now lefts ≡ left-sizes ⌝ }
     ensures { λ r. ⌜ r ≡ answer (seen-block level (now (ty .entry)) n at (now (frame .entry)) bit) ⌝ }
 {
     if bit_at(frame, bit) {
@@ -252,6 +289,7 @@ fn see_block(
             Parts::Copies,
             frame,
             bit + 1,
+            lefts,
         );
     }
     if zeros_at(frame, bit + 1, n * widths[at]) {
@@ -270,21 +308,23 @@ fn see_list(
     bound: NonZeroPow2Usize,
     frame: &[u8],
     bit: usize,
+    lefts: &Lefts,
 ) -> Seen
     requires { ⌜ FairBound bound ⌝ }
     requires { ⌜ Stands level (now ty) (now ends) at ⌝ }
     requires { ⌜ Wide (now ty) (now ends) (now widths) ⌝ }
     requires { ⌜ Inside (now frame) bit (width (listed level (now ty) bound at)) ⌝ }
+    requires { ⌜ now lefts ≡ left-sizes ⌝ }
     ensures { λ r. ⌜ r ≡ answer (seen-list level (now (ty .entry)) bound at (now (frame .entry)) bit) ⌝ }
 {
     match bound.checked_div2() {
-        Bound::Not => see_block(ty, ends, widths, at, level, 1, frame, bit),
+        Bound::Not => see_block(ty, ends, widths, at, level, 1, frame, bit, lefts),
         Bound::Of(half) => {
             let n = half.get();
             let next = bit + 1 + n * widths[at];
             both(
-                see_block(ty, ends, widths, at, level, n, frame, bit),
-                see_list(ty, ends, widths, at, level, half, frame, next),
+                see_block(ty, ends, widths, at, level, n, frame, bit, lefts),
+                see_list(ty, ends, widths, at, level, half, frame, next, lefts),
             )
         }
     }
@@ -292,10 +332,11 @@ fn see_list(
 
 // Rows 11 and 12 of a frame: how many records the value file has whose frame it is, 36 bytes each, or why it is refused.
 // The type file is one that lowers, with its ends and widths.
-pub fn accept(ty: &[u8], ends: &[usize], widths: &[usize], frame: &[u8]) -> Accepted
+pub fn accept(ty: &[u8], ends: &[usize], widths: &[usize], frame: &[u8], lefts: &Lefts) -> Accepted
     requires { ⌜ Given 32 false (now ty) (now ends) 0 ⌝ }
     requires { ⌜ Wide (now ty) (now ends) (now widths) ⌝ }
     requires { ⌜ Lowered (now ty) ⌝ }
+    requires { ⌜ now lefts ≡ left-sizes ⌝ }
     ensures { λ r. ⌜ outcome-of r ≡ accepted (typeOf (now (ty .entry))) (now (frame .entry)) ⌝ }
 {
     let width = widths[0];
@@ -306,7 +347,7 @@ pub fn accept(ty: &[u8], ends: &[usize], widths: &[usize], frame: &[u8]) -> Acce
     if !zeros_at(frame, width, len * 8 - width) {
         return Accepted::Refused(Refusal::StrayBit);
     }
-    match see_record(ty, ends, widths, 0, LEVELS, frame, 0) {
+    match see_record(ty, ends, widths, 0, LEVELS, frame, 0, lefts) {
         Seen::Stray => Accepted::Refused(Refusal::StrayBit),
         Seen::Of(n) => Accepted::Records(n),
     }
@@ -321,14 +362,16 @@ pub fn part_records(
     level: usize,
     frame: &[u8],
     bit: usize,
+    lefts: &Lefts,
 ) -> usize
     requires { ⌜ Stands level (now ty) (now ends) at ⌝ }
     requires { ⌜ Wide (now ty) (now ends) (now widths) ⌝ }
     requires { ⌜ Inside (now frame) bit (width (standing level (now ty) at)) ⌝ }
     requires { ⌜ Counted (seen level (now ty) at (now frame) bit) ⌝ }
+    requires { ⌜ now lefts ≡ left-sizes ⌝ }
     ensures { λ r. ⌜ seen level (now (ty .entry)) at (now (frame .entry)) bit ≡ some r ⌝ }
 {
-    match see_record(ty, ends, widths, at, level, frame, bit) {
+    match see_record(ty, ends, widths, at, level, frame, bit, lefts) {
         Seen::Of(n) => n,
         Seen::Stray => 0,
     }

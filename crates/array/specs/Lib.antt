@@ -1,3 +1,4 @@
--- Where trees of records end; `Laws` has what is proved of it.
+-- Where trees of records end, and the left sizes that the table has; `Laws` has what is proved of the ends.
 pub mod Ends
 pub mod Laws
+pub mod Lefts

@@ -1,9 +1,18 @@
 // Balanced trees and trees of records, after array.rs.
-
+use lefts::LEFT_SIZES;
 ghost use mathlib.Core.Path.{_≡_};
 ghost use Prim.Native.Nat.{_≤_};
 ghost use Rattle.model.specs.Balanced.{next-power-of-two, btree-split-index};
+ghost use Rattle.array.specs.Lefts.{left-sizes};
 ghost use Rattle.array.specs.Ends.{tree-end-of};
+
+mod lefts;
+
+// The table of left sizes: entry n is what the left side of a tree of n parts has.
+pub type Lefts = [u16; 1025];
+
+// The most parts that the table has a left size for.
+const MOST_TABLED: usize = 1024;
 
 // The smallest power of two that is not below n, for n up to 65,536.
 fn next_power_of_two(n: usize) -> usize
@@ -17,11 +26,22 @@ fn next_power_of_two(n: usize) -> usize
     power
 }
 
-// The parts that the left side of a balanced tree of n parts has, n at least 2: n less half the smallest power of two not below n.
-pub fn btree_split_index(n: usize) -> usize
+// The table, for an entry to lend to its walks. A constant that is read is written to the stack whole, so each entry reads it once.
+pub fn left_sizes() -> Lefts
+    ensures { λ r. ⌜ r ≡ left-sizes ⌝ }
+{
+    LEFT_SIZES
+}
+
+// The parts that the left side of a balanced tree of n parts has, n at least 2: up to 1,024 the table's entry, above it n less half the smallest power of two not below n.
+pub fn btree_split_index(n: usize, lefts: &Lefts) -> usize
     requires { ⌜ (2 ≤ n) × (n ≤ 65536) ⌝ }
+    requires { ⌜ now lefts ≡ left-sizes ⌝ }
     ensures { λ r. ⌜ r ≡ btree-split-index n ⌝ }
 {
+    if n <= MOST_TABLED {
+        return lefts[n] as usize;
+    }
     n - next_power_of_two(n) / 2
 }
 

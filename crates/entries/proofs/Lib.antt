@@ -2,6 +2,7 @@
 pub mod Element
 pub mod Literals
 pub mod Relent
+pub mod Sizes
 pub mod Owned
 pub mod Reading
 pub mod Params

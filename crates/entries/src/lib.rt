@@ -1,5 +1,6 @@
 // The table of a type file as 01 names it: a lent slice of structs, one entry for each type record, owned by each public entry.
 // Few functions hold the slice, and each is proved by hand: `fill` puts the table down, `hand_out` copies the columns that the walks go over, `read_type` is the two around the reading of the type.
+use array::Lefts;
 use reply::Refusal;
 use table::RECORDS;
 use table::tabulate;
@@ -8,6 +9,7 @@ use types::check_type;
 ghost use mathlib.Core.Path.{_≡_};
 ghost use Prim.Native.Nat.{_<_, _≤_};
 ghost use lib.ListN.{length, take, drop};
+ghost use Rattle.array.specs.Lefts.{left-sizes};
 ghost use Rattle.entries.specs.Entries.{entry-at, filled, handed};
 ghost use Rattle.entries.specs.Answers.{records-in, read-as, Typed, TableRead};
 
@@ -95,24 +97,36 @@ fn read_of(answer: TypeAnswer, root: Entry) -> Read
 }
 
 // Rows 1 to 7 of a type file, its ends and its facts; where it need not lower, rows 1 to 5 and its ends.
-fn measure_type(ty: &[u8], lowers: bool, ends: &mut [usize], facts: &mut [usize]) -> TypeAnswer
-    requires { ⌜ (1024 ≤ length (now ends)) × (length (now facts) ≡ 2048) ⌝ }
+fn measure_type(
+    ty: &[u8],
+    lowers: bool,
+    ends: &mut [usize],
+    facts: &mut [usize],
+    lefts: &Lefts,
+) -> TypeAnswer
+    requires { ⌜ (1024 ≤ length (now ends)) × (length (now facts) ≡ 2048) × (now lefts ≡ left-sizes) ⌝ }
     ensures { λ r. ⌜ Typed lowers (now (ty .entry)) r (now (ends .exit)) (take 1024 (now (facts .exit))) (drop 1024 (now (facts .exit))) ⌝ }
 {
     if lowers {
-        tabulate(ty, ends, facts)
+        tabulate(ty, ends, facts, lefts)
     } else {
         check_type(ty, ends)
     }
 }
 
 // Reads a type file into the table and hands its columns out, which are room for the sizes and widths while it is measured: the first entry, or why the file is refused, by rows 1 to 7, or 1 to 5 where it need not lower.
-pub fn read_type(ty: &[u8], lowers: bool, table: &mut [Entry], columns: &mut [usize]) -> Read
-    requires { ⌜ (length (now table) ≡ 1024) × (length (now columns) ≡ 2048) ⌝ }
+pub fn read_type(
+    ty: &[u8],
+    lowers: bool,
+    table: &mut [Entry],
+    columns: &mut [usize],
+    lefts: &Lefts,
+) -> Read
+    requires { ⌜ (length (now table) ≡ 1024) × (length (now columns) ≡ 2048) × (now lefts ≡ left-sizes) ⌝ }
     ensures { λ r. ⌜ TableRead lowers (now (ty .entry)) r (now (table .exit)) (now (columns .exit)) ⌝ }
 {
     let mut ends = [0usize; 1024];
-    let answer = measure_type(ty, lowers, &mut ends, columns);
+    let answer = measure_type(ty, lowers, &mut ends, columns, lefts);
     let n = records_of(answer);
     fill(table, &ends, columns, n);
     hand_out(table, columns, n);

@@ -1,6 +1,7 @@
 // The public entries: each takes whole files and a buffer for its result (an edit: the frame that it changes), asks nothing of its caller, and answers a `Reply`.
-// Each owns the table of the type file, lends it to `read_type`, and leaves the rest to its operation. The functions that own the table are proved by hand.
+// Each owns the table of the type file and the left sizes, lends both to `read_type`, and leaves the rest to its operation. The functions that own the table are proved by hand.
 // What each promises of a call is an equation of `crates/model/specs/Calls.antt`. How an entry is added: docs/ENTRIES.md.
+use array::left_sizes;
 use entries::Entry;
 use entries::read_type;
 use reply::Reply;
@@ -17,8 +18,9 @@ pub fn lower(ty: &[u8], out: &mut [u8]) -> Reply
 {
     let mut table = [Entry::NONE; 1024];
     let mut columns = [0usize; 2048];
-    let read = read_type(ty, true, &mut table, &mut columns);
-    operations::lower(ty, read, &columns, out)
+    let lefts = left_sizes();
+    let read = read_type(ty, true, &mut table, &mut columns, &lefts);
+    operations::lower(ty, read, &columns, &lefts, out)
 }
 
 // Writes the shape of a value over the front of `out`, and answers its length; every byte behind it stays, and all of them where it is refused.
@@ -27,8 +29,9 @@ pub fn write_shape(ty: &[u8], value: &[u8], out: &mut [u8]) -> Reply
 {
     let mut table = [Entry::NONE; 1024];
     let mut columns = [0usize; 2048];
-    let read = read_type(ty, true, &mut table, &mut columns);
-    operations::write_shape(ty, read, &columns, value, out)
+    let lefts = left_sizes();
+    let read = read_type(ty, true, &mut table, &mut columns, &lefts);
+    operations::write_shape(ty, read, &columns, &lefts, value, out)
 }
 
 // Writes the value file that a shape gives as one of the type over the front of `out`, and answers its length; every byte behind it stays, and all of them where it is refused.
@@ -38,8 +41,9 @@ pub fn reconstruct(ty: &[u8], shape: &[u8], out: &mut [u8]) -> Reply
 {
     let mut table = [Entry::NONE; 1024];
     let mut columns = [0usize; 2048];
-    let read = read_type(ty, false, &mut table, &mut columns);
-    operations::reconstruct(ty, read, &columns, shape, out)
+    let lefts = left_sizes();
+    let read = read_type(ty, false, &mut table, &mut columns, &lefts);
+    operations::reconstruct(ty, read, &columns, &lefts, shape, out)
 }
 
 // Writes a shape over the front of `out` with a unit at each spot where an empty tuple, an array of 0 or a variant without parts is read, and all else
@@ -49,8 +53,9 @@ pub fn clean_shape(ty: &[u8], shape: &[u8], out: &mut [u8]) -> Reply
 {
     let mut table = [Entry::NONE; 1024];
     let mut columns = [0usize; 2048];
-    let read = read_type(ty, false, &mut table, &mut columns);
-    operations::clean_shape(ty, read, &columns, shape, out)
+    let lefts = left_sizes();
+    let read = read_type(ty, false, &mut table, &mut columns, &lefts);
+    operations::clean_shape(ty, read, &columns, &lefts, shape, out)
 }
 
 // Writes the frame of a value over the front of `out`, and answers its length; every byte behind it stays, and all of them where it is refused.
@@ -59,8 +64,9 @@ pub fn write_frame(ty: &[u8], value: &[u8], out: &mut [u8]) -> Reply
 {
     let mut table = [Entry::NONE; 1024];
     let mut columns = [0usize; 2048];
-    let read = read_type(ty, true, &mut table, &mut columns);
-    operations::write_frame(ty, read, &columns, value, out)
+    let lefts = left_sizes();
+    let read = read_type(ty, true, &mut table, &mut columns, &lefts);
+    operations::write_frame(ty, read, &columns, &lefts, value, out)
 }
 
 // Writes the value file of an accepted frame over the front of `out`, and answers its length; every byte behind it stays, and all of them where it is refused.
@@ -69,8 +75,9 @@ pub fn read_frame(ty: &[u8], frame: &[u8], out: &mut [u8]) -> Reply
 {
     let mut table = [Entry::NONE; 1024];
     let mut columns = [0usize; 2048];
-    let read = read_type(ty, true, &mut table, &mut columns);
-    operations::read_frame(ty, read, &columns, frame, out)
+    let lefts = left_sizes();
+    let read = read_type(ty, true, &mut table, &mut columns, &lefts);
+    operations::read_frame(ty, read, &columns, &lefts, frame, out)
 }
 
 // Writes the value file of the part that a path leads to in an accepted frame over the front of `out`, and answers its length; every byte behind it stays, and all of them where it is refused.
@@ -79,8 +86,9 @@ pub fn part_read(ty: &[u8], frame: &[u8], path: &[u8], out: &mut [u8]) -> Reply
 {
     let mut table = [Entry::NONE; 1024];
     let mut columns = [0usize; 2048];
-    let read = read_type(ty, true, &mut table, &mut columns);
-    operations::part_read(ty, read, &columns, frame, path, out)
+    let lefts = left_sizes();
+    let read = read_type(ty, true, &mut table, &mut columns, &lefts);
+    operations::part_read(ty, read, &columns, &lefts, frame, path, out)
 }
 
 // Replaces the part that a path leads to in an accepted frame by a value of the part's type, in the frame's own bytes, and answers the frame's length; no bit outside the part's own stretch changes, and none at all where it is refused.
@@ -91,6 +99,7 @@ pub fn part_edit(ty: &[u8], frame: &mut [u8], path: &[u8], value: &[u8]) -> Repl
 {
     let mut table = [Entry::NONE; 1024];
     let mut columns = [0usize; 2048];
-    let read = read_type(ty, true, &mut table, &mut columns);
-    operations::part_edit(ty, read, &columns, frame, path, value)
+    let lefts = left_sizes();
+    let read = read_type(ty, true, &mut table, &mut columns, &lefts);
+    operations::part_edit(ty, read, &columns, &lefts, frame, path, value)
 }

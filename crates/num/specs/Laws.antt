@@ -1,8 +1,9 @@
--- Laws of list bounds and bit widths: a search among the powers of two is the model's test, and it finds the power's own exponent.
--- A bound's search is one among 1, 2, 4 .. whose place 0 is left out; a width's is a look into the list of widths.
+-- Laws of list bounds and bit widths: a look into the list of them is the model's test, and a search among the powers of two finds the power's own exponent.
+-- A bound's search is one among 1, 2, 4 .. whose place 0 is left out.
 use mathlib.Core.Path.{_≡_, refl, sym, ap, _∙_}
 use mathlib.Core.Bool.{Bool, true, false, _||_}
 use mathlib.Core.List.{List, [], _∷_}
+use mathlib.Core.Logic.{_⊎_, inl, inr}
 use mathlib.Core.Option.{Option, none, some}
 use Prim.Native.Nat.{ℕ, zero, suc, _+_, _/_, _^_, _≤_, _<_}
 use native.Mathlib.Nat.{two-pow-succ, one-le-pow, pow-le-pow-right}
@@ -20,6 +21,34 @@ use Rattle.num.specs.declared.Pow2Usize.{Pow2Usize}
 use Rattle.num.specs.declared.Bound.the-variants as bounds
 use Rattle.num.specs.declared.Width.the-variants as bit-widths
 use Rattle.num.specs.Powers.{found, exponent-of, log2, bound, bound-exponent, bound-if, bound-of, bound-log2, half-bound, width, width-of}
+
+-- LISTED NUMBERS
+
+-- n is one of these, as the arm of a `match` tells it
+abbrev pub Among : ℕ → List ℕ → Type 0
+Among n [] = ⊥
+Among n (k ∷ []) = n ≡ k
+Among n (k ∷ m ∷ ms) = (n ≡ k) ⊎ Among n (m ∷ ms)
+
+or-true : (b : Bool) → b || true ≡ true
+or-true true = refl
+or-true false = refl
+
+among : (n : ℕ) (ks : List ℕ) → Among n ks → one-of n ks ≡ true
+among n [] h = absurd h
+among n (k ∷ []) h = rw (eq-eqb n k h)
+among n (k ∷ m ∷ ms) (inl h) = rw (eq-eqb n k h)
+among n (k ∷ m ∷ ms) (inr h) = ap (λ b. eqb n k || b) (among n (m ∷ ms) h) ∙ or-true (eqb n k)
+
+not-among : (n : ℕ) (ks : List ℕ) → (Among n ks → ⊥) → one-of n ks ≡ false
+not-among n [] h = refl
+not-among n (k ∷ []) h = rw (ne-eqb n k h)
+not-among n (k ∷ m ∷ ms) h = rw (ne-eqb n k (λ e. h (inl e))) (not-among n (m ∷ ms) (λ e. h (inr e)))
+
+-- f i, f (i + 1) ..
+abbrev values : (ℕ → ℕ) → ℕ → ℕ → List ℕ
+values f zero i = []
+values f (suc fuel) i = f i ∷ values f fuel (suc i)
 
 -- SEARCHES
 
@@ -67,21 +96,27 @@ bound-search n = go (eqb n 1) refl
     go true e = ap bound-exponent (eqb-true n 1 e)
     go false e = sym (ap (λ o. positive (found o)) (find-shift (λ k. 2 ^ k) 15 0 n) ∙ positive-suc (bound-exponent n))
 
--- a bound by the exponent that was found
-bound-by : (n : ℕ) (r : Found) → r ≡ exponent-of 16 n → bound-if n (positive r) ≡ bound-of n
+-- what is searched for among the f k is one of them
+bound-in : (f : ℕ → ℕ) (fuel i n : ℕ) → bound-if n (find f fuel i n) ≡ pick (one-of n (values f fuel i)) (bounds.Of (bound n)) bounds.Not
+bound-in f zero i n = refl
+bound-in f (suc fuel) i n = go (eqb n (f i)) (bound-in f fuel (suc i) n)
+  where
+    go : (b : Bool) → bound-if n (find f fuel (suc i) n) ≡ pick (one-of n (values f fuel (suc i))) (bounds.Of (bound n)) bounds.Not
+        → bound-if n (pick b (some i) (find f fuel (suc i) n)) ≡ pick (b || one-of n (values f fuel (suc i))) (bounds.Of (bound n)) bounds.Not
+    go true rest = refl
+    go false rest = rest
+
+-- the bounds: 2, 4 .. 32,768
+abbrev pub all-bounds : List ℕ
+all-bounds = values (λ e. 2 ^ suc e) 15 0
+
+pub is-bound : (n : ℕ) → Among n all-bounds → bounds.Of (bound n) ≡ bound-of n
 unfolding bound-of
-bound-by n r h = ap (bound-if n) (ap positive h ∙ sym (bound-search n))
+is-bound n h = sym (bound-in (λ e. 2 ^ suc e) 15 0 n ∙ ap (λ b. pick b (bounds.Of (bound n)) bounds.Not) (among n all-bounds h))
 
-pub one-no-bound : (n k : ℕ) → k ≡ 0 → At k ≡ exponent-of 16 n → bounds.Not ≡ bound-of n
-one-no-bound n zero z h = bound-by n (At zero) h
-one-no-bound n (suc k) z h = absurd (omega arith)
-
-pub more-bound : (n k : ℕ) → (k ≡ 0 → ⊥) → At k ≡ exponent-of 16 n → bounds.Of (bound n) ≡ bound-of n
-more-bound n zero z h = absurd (z refl)
-more-bound n (suc k) z h = bound-by n (At (suc k)) h
-
-pub none-no-bound : (n : ℕ) → Nothing ≡ exponent-of 16 n → bounds.Not ≡ bound-of n
-none-no-bound n h = bound-by n Nothing h
+pub no-bound : (n : ℕ) → (Among n all-bounds → ⊥) → bounds.Not ≡ bound-of n
+unfolding bound-of
+no-bound n h = sym (bound-in (λ e. 2 ^ suc e) 15 0 n ∙ ap (λ b. pick b (bounds.Of (bound n)) bounds.Not) (not-among n all-bounds h))
 
 abbrev suc-or-zero : Option ℕ → ℕ
 suc-or-zero none = 0
@@ -148,30 +183,13 @@ half-is n {h} e = go (ltb (n / 2) 2) e
 
 -- BIT WIDTHS
 
-abbrev is-found : Found → Bool
-is-found Nothing = false
-is-found (At k) = true
-
-abbrev powers : ℕ → ℕ → List ℕ
-powers zero i = []
-powers (suc fuel) i = 2 ^ i ∷ powers fuel (suc i)
-
-one-of-powers : (fuel i n : ℕ) → is-found (found (find (λ k. 2 ^ k) fuel i n)) ≡ one-of n (powers fuel i)
-one-of-powers zero i n = refl
-one-of-powers (suc fuel) i n = go (eqb n (2 ^ i)) (one-of-powers fuel (suc i) n)
-  where
-    go : (b : Bool) → is-found (found (find (λ k. 2 ^ k) fuel (suc i) n)) ≡ one-of n (powers fuel (suc i)) → is-found (found (pick b (some i) (find (λ k. 2 ^ k) fuel (suc i) n))) ≡ b || one-of n (powers fuel (suc i))
-    go true rest = refl
-    go false rest = rest
-
-width-search : (n : ℕ) → is-found (exponent-of 9 n) ≡ one-of n widths
-unfolding exponent-of
-width-search n = one-of-powers 9 0 n
-
--- a width by the exponent that was found
-pub width-by : (n : ℕ) (r : Found) → r ≡ exponent-of 9 n → pick (is-found r) (bit-widths.Of (width n)) bit-widths.Not ≡ width-of n
+pub is-width : (n : ℕ) → Among n widths → bit-widths.Of (width n) ≡ width-of n
 unfolding width-of
-width-by n r h = ap (λ b. pick b (bit-widths.Of (width n)) bit-widths.Not) (ap is-found h ∙ width-search n)
+is-width n h = sym (ap (λ b. pick b (bit-widths.Of (width n)) bit-widths.Not) (among n widths h))
+
+pub no-width : (n : ℕ) → (Among n widths → ⊥) → bit-widths.Not ≡ width-of n
+unfolding width-of
+no-width n h = sym (ap (λ b. pick b (bit-widths.Of (width n)) bit-widths.Not) (not-among n widths h))
 
 -- what `new` admits the model's reader takes, and nothing else
 pub width-is : (n : ℕ) (w : Pow2Usize) → bit-widths.Of w ≡ width-of n → (one-of n widths ≡ true) × (w ≡ width n)

@@ -8,9 +8,6 @@ ghost use Rattle.num.specs.Powers.{exponent-of, bound-of, bound-log2, ha
 // 1 and the list bounds: 2 ^ 0 to 2 ^ 15.
 const BOUND_POWERS: usize = 16;
 
-// The bit widths: 2 ^ 0 to 2 ^ 8.
-const WIDTH_POWERS: usize = 9;
-
 // The exponent of a power of two, if the number is one.
 enum Found {
     At(usize),
@@ -51,15 +48,23 @@ impl NonZeroPow2Usize {
     pub fn new(n: usize) -> Bound
         ensures { λ r. ⌜ r ≡ bound-of n ⌝ }
     {
-        match exponent(n, BOUND_POWERS) {
-            Found::At(k) => {
-                if k == 0 {
-                    Bound::Not
-                } else {
-                    Bound::Of(NonZeroPow2Usize(n))
-                }
-            }
-            Found::Nothing => Bound::Not,
+        match n {
+            2
+            | 4
+            | 8
+            | 16
+            | 32
+            | 64
+            | 128
+            | 256
+            | 512
+            | 1024
+            | 2048
+            | 4096
+            | 8192
+            | 16384
+            | 32768 => Bound::Of(NonZeroPow2Usize(n)),
+            _ => Bound::Not,
         }
     }
 
@@ -107,9 +112,11 @@ impl Pow2Usize {
     pub fn new(n: usize) -> Width
         ensures { λ r. ⌜ r ≡ width-of n ⌝ }
     {
-        match exponent(n, WIDTH_POWERS) {
-            Found::At(_) => Width::Of(Pow2Usize(n)),
-            Found::Nothing => Width::Not,
+        match n {
+            // apart from 2: next to each other the two would be a range, and tests of their own
+            1 => Width::Of(Pow2Usize(n)),
+            2 | 4 | 8 | 16 | 32 | 64 | 128 | 256 => Width::Of(Pow2Usize(n)),
+            _ => Width::Not,
         }
     }
 

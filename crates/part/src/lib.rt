@@ -1,5 +1,6 @@
 // Paths into a frame (01, 'Part read and part edit'; ported from no Rust file): rows 13 and 14, and where a part stands.
 // A path is followed in the type and in the frame at once; nothing of the value is read but the tags on the way.
+use array::Lefts;
 use num::Bound;
 use num::NonZeroPow2Usize;
 use reader::bit_at;
@@ -15,6 +16,7 @@ ghost use Prim.Native.Nat.{_+_, _-_, _*_, _^_, _≤_, _<_};
 ghost use lib.ListN.{length, getD};
 ghost use Rattle.num.specs.Powers.{bound-log2};
 ghost use Rattle.model.specs.Balanced.{btree};
+ghost use Rattle.array.specs.Lefts.{left-sizes};
 ghost use Rattle.types.specs.Heads.{FairBound};
 ghost use Rattle.bits.specs.Bits.{Inside};
 ghost use Rattle.told.specs.Forms.{Hops};
@@ -114,12 +116,21 @@ fn element_of(
 }
 
 // The one of the two types from record `at` on that the tag at `bit` leads to, if it is number i.
-fn side_of(ends: &[usize], at: usize, level: usize, frame: &[u8], bit: usize, i: usize) -> Place
+fn side_of(
+    ends: &[usize],
+    at: usize,
+    level: usize,
+    frame: &[u8],
+    bit: usize,
+    i: usize,
+    lefts: &Lefts,
+) -> Place
     requires { ⌜ Hops (now ends) 2 at ⌝ }
     requires { ⌜ Inside (now frame) bit (height (btree 2)) ⌝ }
+    requires { ⌜ now lefts ≡ left-sizes ⌝ }
     ensures { λ r. ⌜ r ≡ side level (now (ends .entry)) at (now (frame .entry)) bit i ⌝ }
 {
-    let choice = find_choice(ends, at, 2, frame, bit);
+    let choice = find_choice(ends, at, 2, frame, bit, lefts);
     if i == choice.number {
         return Place::At(choice.at, level, choice.bit);
     }
@@ -137,15 +148,17 @@ fn variant_of(
     frame: &[u8],
     bit: usize,
     i: usize,
+    lefts: &Lefts,
 ) -> Place
     requires { ⌜ (1 ≤ n) × (n ≤ 65536) ⌝ }
     requires { ⌜ Hops (now ends) n at ⌝ }
     requires { ⌜ Inside (now frame) bit (height (btree n)) ⌝ }
     requires { ⌜ 1 ≤ level ⌝ }
     requires { ⌜ Cased (now ty) (now ends) (now widths) n at (now frame) bit ⌝ }
+    requires { ⌜ now lefts ≡ left-sizes ⌝ }
     ensures { λ r. ⌜ r ≡ variant level (now (ty .entry)) (now (ends .entry)) (now (widths .entry)) n at (now (frame .entry)) bit i ⌝ }
 {
-    let choice = find_choice(ends, at, n, frame, bit);
+    let choice = find_choice(ends, at, n, frame, bit, lefts);
     match rec_at(ty, choice.at) {
         Rec::Gone => Place::Nowhere,
         Rec::Wrong => Place::Nowhere,
@@ -165,9 +178,11 @@ fn step(
     frame: &[u8],
     bit: usize,
     i: usize,
+    lefts: &Lefts,
 ) -> Place
     requires { ⌜ Holds level (now ty) (now ends) at (now frame) bit ⌝ }
     requires { ⌜ Wide (now ty) (now ends) (now widths) ⌝ }
+    requires { ⌜ now lefts ≡ left-sizes ⌝ }
     ensures { λ r. ⌜ r ≡ step-at level (now (ty .entry)) (now (ends .entry)) (now (widths .entry)) at (now (frame .entry)) bit i ⌝ }
 {
     match head_at(ty, at) {
@@ -176,7 +191,7 @@ fn step(
         Head::Never => Place::Nowhere,
         Head::Boolean => Place::Nowhere,
         Head::UInt(_) => Place::Nowhere,
-        Head::Either => side_of(ends, at + 1, level - 1, frame, bit, i),
+        Head::Either => side_of(ends, at + 1, level - 1, frame, bit, i, lefts),
         Head::Opt => element_of(
             widths,
             at + 1,
@@ -189,15 +204,34 @@ fn step(
         Head::Tuple(n) => part_of(ends, widths, at + 1, level - 1, n, bit, i),
         Head::Array(n) => copy_of(widths, at + 1, level - 1, n, bit, i),
         Head::Listed(bound) => element_of(widths, at + 1, level - 1, bound, frame, bit, i),
-        Head::Variants(n) => variant_of(ty, ends, widths, at + 1, level - 1, n, frame, bit, i),
+        Head::Variants(n) => variant_of(
+            ty,
+            ends,
+            widths,
+            at + 1,
+            level - 1,
+            n,
+            frame,
+            bit,
+            i,
+            lefts,
+        ),
         Head::Payload(_) => Place::Nowhere,
     }
 }
 
 // Where a path leads in a frame that was accepted for the type, step by step from the whole.
-pub fn find_part(ty: &[u8], ends: &[usize], widths: &[usize], frame: &[u8], path: &[u8]) -> Target
+pub fn find_part(
+    ty: &[u8],
+    ends: &[usize],
+    widths: &[usize],
+    frame: &[u8],
+    path: &[u8],
+    lefts: &Lefts,
+) -> Target
     requires { ⌜ Holds 32 (now ty) (now ends) 0 (now frame) 0 ⌝ }
     requires { ⌜ Wide (now ty) (now ends) (now widths) ⌝ }
+    requires { ⌜ now lefts ≡ left-sizes ⌝ }
     ensures { λ r. ⌜ r ≡ found-in (now (ty .entry)) (now (ends .entry)) (now (widths .entry)) (now (frame .entry)) (now (path .entry)) ⌝ }
 {
     if path.len() % 2 != 0 {
@@ -211,7 +245,7 @@ pub fn find_part(ty: &[u8], ends: &[usize], widths: &[usize], frame: &[u8], path
         let high = wide(path[j]);
         let low = wide(path[j + 1]);
         let i = high * 256 + low;
-        match step(ty, ends, widths, at, level, frame, bit, i) {
+        match step(ty, ends, widths, at, level, frame, bit, i, lefts) {
             Place::Nowhere => {
                 return Target::Refused(Refusal::NoSuchPart);
             }

@@ -1,5 +1,6 @@
 // Shape files, and the first pass of `reconstruct`, after value.rs: a type and a shape are walked together, and the records of the value file
 // are counted, and the shape's records beyond one where a unit belongs.
+use array::Lefts;
 use array::TreeEnd;
 use array::btree_split_index;
 use array::tree_end;
@@ -14,6 +15,7 @@ ghost use mathlib.Core.Bool.{false};
 ghost use Prim.Native.Nat.{_≤_};
 ghost use lib.ListN.{getD, length};
 ghost use Rattle.model.specs.Numbers.{most-shape-records};
+ghost use Rattle.array.specs.Lefts.{left-sizes};
 ghost use Rattle.types.specs.Heads.{FairBound};
 ghost use Rattle.types.specs.Trees.{typeOf};
 ghost use Rattle.types.specs.Steps.{Given};
@@ -155,9 +157,18 @@ fn read_bit(shape: &[u8], p: usize) -> Read
 }
 
 // Reads what stands at record `at`, a type or a Variant's payload, with `level` levels from there on.
-fn read_record(ty: &[u8], ends: &[usize], at: usize, level: usize, shape: &[u8], p: usize) -> Read
+fn read_record(
+    ty: &[u8],
+    ends: &[usize],
+    at: usize,
+    level: usize,
+    shape: &[u8],
+    p: usize,
+    lefts: &Lefts,
+) -> Read
     requires { ⌜ Stands level (now ty) (now ends) at ⌝ }
     requires { ⌜ Limits (now shape) level ⌝ }
+    requires { ⌜ now lefts ≡ left-sizes ⌝ }
     ensures { λ r. ⌜ r ≡ standing (reader (now (shape .entry))) level (now (ty .entry)) at p ⌝ }
 {
     match form_of(head_at(ty, at)) {
@@ -166,16 +177,32 @@ fn read_record(ty: &[u8], ends: &[usize], at: usize, level: usize, shape: &[u8],
             plus(
                 1,
                 0,
-                read_product(ty, ends, at + 1, level - 1, n, parts, shape, p),
+                read_product(ty, ends, at + 1, level - 1, n, parts, shape, p, lefts),
             )
         }
-        Form::Sum(n) => plus(1, 0, read_sum(ty, ends, at + 1, level - 1, n, shape, p)),
+        Form::Sum(n) => plus(
+            1,
+            0,
+            read_sum(ty, ends, at + 1, level - 1, n, shape, p, lefts),
+        ),
         Form::List(bound) => plus(
             1,
             0,
-            read_list(ty, ends, at + 1, level - 1, bound, shape, p),
+            read_list(ty, ends, at + 1, level - 1, bound, shape, p, lefts),
         ),
-        Form::Payload(n) => { read_product(ty, ends, at + 1, level - 1, n, Parts::Types, shape, p) }
+        Form::Payload(n) => {
+            read_product(
+                ty,
+                ends,
+                at + 1,
+                level - 1,
+                n,
+                Parts::Types,
+                shape,
+                p,
+                lefts,
+            )
+        }
     }
 }
 
@@ -201,10 +228,12 @@ fn read_product(
     parts: Parts,
     shape: &[u8],
     p: usize,
+    lefts: &Lefts,
 ) -> Read
     requires { ⌜ n ≤ most-parts ⌝ }
     requires { ⌜ GivenParts parts level (now ty) (now ends) n at ⌝ }
     requires { ⌜ Limits (now shape) level ⌝ }
+    requires { ⌜ now lefts ≡ left-sizes ⌝ }
     ensures { λ r. ⌜ r ≡ balanced (reader (now (shape .entry))) parts level (now (ty .entry)) (now (ends .entry)) n at p ⌝ }
 {
     if n == 0 {
@@ -214,22 +243,22 @@ fn read_product(
         // here and not in a function of its own, which would be inlined with slices of its own: the stack's frame stays small
         return match parts {
             Parts::Bits => read_bit(shape, p),
-            Parts::Copies => read_record(ty, ends, at, level, shape, p),
-            Parts::Types => read_record(ty, ends, at, level, shape, p),
+            Parts::Copies => read_record(ty, ends, at, level, shape, p, lefts),
+            Parts::Types => read_record(ty, ends, at, level, shape, p, lefts),
         };
     }
     if record_at(shape, p) != PAIR {
         return Read::Not;
     }
-    let few = btree_split_index(n);
+    let few = btree_split_index(n, lefts);
     let others = n - few;
     // both sides answer into one local, which keeps the stack's frame small
-    let mut side = read_product(ty, ends, at, level, few, parts, shape, p + 1);
+    let mut side = read_product(ty, ends, at, level, few, parts, shape, p + 1, lefts);
     match side {
         Read::Not => Read::Not,
         Read::Of(q, count, surplus) => {
             let rest = after(ends, at, few, parts);
-            side = read_product(ty, ends, rest, level, others, parts, shape, q);
+            side = read_product(ty, ends, rest, level, others, parts, shape, q, lefts);
             plus(count, surplus, side)
         }
     }
@@ -244,23 +273,34 @@ fn read_sum(
     n: usize,
     shape: &[u8],
     p: usize,
+    lefts: &Lefts,
 ) -> Read
     requires { ⌜ (1 ≤ n) × (n ≤ most-parts) ⌝ }
     requires { ⌜ GivenParts Types level (now ty) (now ends) n at ⌝ }
     requires { ⌜ Limits (now shape) level ⌝ }
+    requires { ⌜ now lefts ≡ left-sizes ⌝ }
     ensures { λ r. ⌜ r ≡ chosen (reader (now (shape .entry))) level (now (ty .entry)) (now (ends .entry)) n at p ⌝ }
 {
     if n == 1 {
-        return read_record(ty, ends, at, level, shape, p);
+        return read_record(ty, ends, at, level, shape, p, lefts);
     }
-    let few = btree_split_index(n);
+    let few = btree_split_index(n, lefts);
     let side = record_at(shape, p);
     if side == LEFT {
-        return read_sum(ty, ends, at, level, few, shape, p + 1);
+        return read_sum(ty, ends, at, level, few, shape, p + 1, lefts);
     }
     if side == RIGHT {
         let others = n - few;
-        return read_sum(ty, ends, hop(ends, at, few), level, others, shape, p + 1);
+        return read_sum(
+            ty,
+            ends,
+            hop(ends, at, few),
+            level,
+            others,
+            shape,
+            p + 1,
+            lefts,
+        );
     }
     Read::Not
 }
@@ -274,10 +314,12 @@ fn read_block(
     n: usize,
     shape: &[u8],
     p: usize,
+    lefts: &Lefts,
 ) -> Read
     requires { ⌜ n ≤ most-parts ⌝ }
     requires { ⌜ Stands level (now ty) (now ends) at ⌝ }
     requires { ⌜ Limits (now shape) level ⌝ }
+    requires { ⌜ now lefts ≡ left-sizes ⌝ }
     ensures { λ r. ⌜ r ≡ block-of (reader (now (shape .entry))) level (now (ty .entry)) n at p ⌝ }
 {
     let side = record_at(shape, p);
@@ -285,7 +327,7 @@ fn read_block(
         return read_unit(shape, p + 1);
     }
     if side == RIGHT {
-        return read_product(ty, ends, at, level, n, Parts::Copies, shape, p + 1);
+        return read_product(ty, ends, at, level, n, Parts::Copies, shape, p + 1, lefts);
     }
     Read::Not
 }
@@ -299,26 +341,28 @@ fn read_list(
     bound: NonZeroPow2Usize,
     shape: &[u8],
     p: usize,
+    lefts: &Lefts,
 ) -> Read
     requires { ⌜ FairBound bound ⌝ }
     requires { ⌜ Stands level (now ty) (now ends) at ⌝ }
     requires { ⌜ Limits (now shape) level ⌝ }
+    requires { ⌜ now lefts ≡ left-sizes ⌝ }
     ensures { λ r. ⌜ r ≡ listed (reader (now (shape .entry))) level (now (ty .entry)) bound at p ⌝ }
 {
     match bound.checked_div2() {
         // with nothing more: an answer that is handed on as it is takes 16 bytes more of the stack's frame
-        Bound::Not => plus(0, 0, read_block(ty, ends, at, level, 1, shape, p)),
+        Bound::Not => plus(0, 0, read_block(ty, ends, at, level, 1, shape, p, lefts)),
         Bound::Of(half) => {
             if record_at(shape, p) != PAIR {
                 return Read::Not;
             }
-            match read_block(ty, ends, at, level, half.get(), shape, p + 1) {
+            match read_block(ty, ends, at, level, half.get(), shape, p + 1, lefts) {
                 Read::Not => Read::Not,
                 Read::Of(q, count, surplus) => {
                     plus(
                         count,
                         surplus,
-                        read_list(ty, ends, at, level, half, shape, q),
+                        read_list(ty, ends, at, level, half, shape, q, lefts),
                     )
                 }
             }
@@ -347,12 +391,13 @@ pub fn check_shape(shape: &[u8]) -> ShapeAnswer
 // The number of records of the value file that reading the shape gives, 36 bytes each, and the shape's surplus (row 20, if there is any),
 // or that it cannot be read (row 10).
 // The type file is an accepted one with its ends; the shape is looked at from its first record on, up to the end of what the type takes.
-pub fn value_records(ty: &[u8], ends: &[usize], shape: &[u8]) -> Records
+pub fn value_records(ty: &[u8], ends: &[usize], shape: &[u8], lefts: &Lefts) -> Records
     requires { ⌜ Given 32 false (now ty) (now ends) 0 ⌝ }
     requires { ⌜ length (now shape) ≤ most-shape-records ⌝ }
+    requires { ⌜ now lefts ≡ left-sizes ⌝ }
     ensures { λ r. ⌜ r ≡ value-records (typeOf (now (ty .entry))) (now (shape .entry)) ⌝ }
 {
-    match read_record(ty, ends, 0, LEVELS, shape, 0) {
+    match read_record(ty, ends, 0, LEVELS, shape, 0, lefts) {
         Read::Not => Records::Not,
         Read::Of(_, count, surplus) => Records::Of(count, surplus),
     }

@@ -1,5 +1,6 @@
 // The second pass of `reconstruct`, after value.rs: a type and a shape are walked together, and the value file is written.
 // The shape was read before and gives a value, so nothing is tested again.
+use array::Lefts;
 use array::TreeEnd;
 use array::btree_split_index;
 use array::tree_end;
@@ -18,6 +19,7 @@ ghost use mathlib.Core.Bool.{false};
 ghost use Prim.Native.Nat.{_<_, _≤_, _+_};
 ghost use lib.ListN.{length, getD};
 ghost use Rattle.num.specs.Powers.{half-bound};
+ghost use Rattle.array.specs.Lefts.{left-sizes};
 ghost use Rattle.types.specs.Heads.{FairBound};
 ghost use Rattle.types.specs.Steps.{Given};
 ghost use Rattle.structural.specs.Forms.{Stands};
@@ -53,30 +55,32 @@ struct Numbered {
 }
 
 // Writes the balanced product of n bits at place q to bit j of an integer's bytes and on, and answers the place after it.
-fn write_bits(shape: &[u8], q: usize, n: usize, int: &mut [u8], j: usize) -> usize
+fn write_bits(shape: &[u8], q: usize, n: usize, int: &mut [u8], j: usize, lefts: &Lefts) -> usize
     requires { ⌜ (1 ≤ n) × (n ≤ 256) × (length (now int) ≡ 32) × (j + n ≤ 256) ⌝ }
     requires { ⌜ Found (made-at (now shape) (bit-row n) q) ⌝ }
+    requires { ⌜ now lefts ≡ left-sizes ⌝ }
     ensures { λ r. ⌜ BitsPlaced (made-at (now (shape .entry)) (bit-row n) q) (now (int .entry)) j (now (int .exit)) r ⌝ }
 {
     if n == 1 {
         set_bit(int, j, shape[q] == RIGHT);
         return q + 2;
     }
-    let few = btree_split_index(n);
+    let few = btree_split_index(n, lefts);
     let others = n - few;
-    let mid = write_bits(shape, q + 1, few, int, j);
-    write_bits(shape, mid, others, int, j + few)
+    let mid = write_bits(shape, q + 1, few, int, j, lefts);
+    write_bits(shape, mid, others, int, j + few, lefts)
 }
 
 // Writes the integer of w bits at place q, and answers the place after it.
-fn write_integer(shape: &[u8], q: usize, w: usize, int: &mut [u8]) -> usize
+fn write_integer(shape: &[u8], q: usize, w: usize, int: &mut [u8], lefts: &Lefts) -> usize
     requires { ⌜ (1 ≤ w) × (w ≤ 256) × (length (now int) ≡ 32) ⌝ }
     requires { ⌜ Found (made-at (now shape) (bit-row w) q) ⌝ }
+    requires { ⌜ now lefts ≡ left-sizes ⌝ }
     ensures { λ r. ⌜ IntegerPlaced (made-at (now (shape .entry)) (bit-row w) q) (now (int .exit)) r ⌝ }
 {
     let lead = INTEGER_BITS - w;
     write_zeros(int, 0, lead);
-    write_bits(shape, q, w, int, lead)
+    write_bits(shape, q, w, int, lead, lefts)
 }
 
 // The place after the tree at place q, which is there.
@@ -99,9 +103,11 @@ fn write_record(
     shape: &[u8],
     q: usize,
     out: &mut [u8],
+    lefts: &Lefts,
 ) -> Written
     requires { ⌜ Stands level (now ty) (now ends) at ⌝ }
     requires { ⌜ Ready (standing (now shape) level (now ty) at q) (now out) ⌝ }
+    requires { ⌜ now lefts ≡ left-sizes ⌝ }
     ensures { λ r. ⌜ Placed (standing (now (shape .entry)) level (now (ty .entry)) at q) (now (out .entry)) (now (out .exit)) (r .next) (r .len) ⌝ }
 {
     let h = head_at(ty, at);
@@ -118,7 +124,7 @@ fn write_record(
         Form::Integer(w) => {
             write_mark(out, h, 0);
             Written {
-                next: write_integer(shape, q, w, &mut out[4..RECORD]),
+                next: write_integer(shape, q, w, &mut out[4..RECORD], lefts),
                 len: RECORD,
             }
         }
@@ -133,6 +139,7 @@ fn write_record(
                 shape,
                 q,
                 &mut out[RECORD..],
+                lefts,
             );
             write_mark(out, h, n);
             Written {
@@ -151,6 +158,7 @@ fn write_record(
                 shape,
                 q,
                 &mut out[RECORD..],
+                lefts,
             );
             write_mark(out, h, below.number);
             Written {
@@ -168,6 +176,7 @@ fn write_record(
                 shape,
                 q,
                 &mut out[RECORD..],
+                lefts,
             );
             write_mark(out, h, below.number);
             Written {
@@ -176,7 +185,18 @@ fn write_record(
             }
         }
         Form::Payload(n) => {
-            let below = write_product(ty, ends, at + 1, level - 1, n, Parts::Types, shape, q, out);
+            let below = write_product(
+                ty,
+                ends,
+                at + 1,
+                level - 1,
+                n,
+                Parts::Types,
+                shape,
+                q,
+                out,
+                lefts,
+            );
             Written {
                 next: below.next,
                 len: below.len,
@@ -196,10 +216,12 @@ fn write_product(
     shape: &[u8],
     q: usize,
     out: &mut [u8],
+    lefts: &Lefts,
 ) -> Numbered
     requires { ⌜ n ≤ 65536 ⌝ }
     requires { ⌜ GivenParts parts level (now ty) (now ends) n at ⌝ }
     requires { ⌜ Ready (made-at (now shape) (product parts level (now ty) n at) q) (now out) ⌝ }
+    requires { ⌜ now lefts ≡ left-sizes ⌝ }
     ensures { λ r. ⌜ (r .number ≡ skip parts level (now (ty .entry)) n at) × Placed (made-at (now (shape .entry)) (product parts level (now (ty .entry)) n at) q) (now (out .entry)) (now (out .exit)) (r .next) (r .len) ⌝ }
 {
     if n == 0 {
@@ -210,7 +232,7 @@ fn write_product(
         };
     }
     if n == 1 {
-        let one = write_record(ty, ends, at, level, shape, q, out);
+        let one = write_record(ty, ends, at, level, shape, q, out, lefts);
         return match parts {
             Parts::Copies => Numbered {
                 number: at,
@@ -224,10 +246,10 @@ fn write_product(
             },
         };
     }
-    let few = btree_split_index(n);
+    let few = btree_split_index(n, lefts);
     let others = n - few;
     // both sides answer into one local, which keeps the stack's frame small
-    let mut side = write_product(ty, ends, at, level, few, parts, shape, q + 1, out);
+    let mut side = write_product(ty, ends, at, level, few, parts, shape, q + 1, out, lefts);
     let k = side.len;
     side = write_product(
         ty,
@@ -239,6 +261,7 @@ fn write_product(
         shape,
         side.next,
         &mut out[k..],
+        lefts,
     );
     Numbered {
         number: side.number,
@@ -258,23 +281,25 @@ fn write_sum(
     shape: &[u8],
     q: usize,
     out: &mut [u8],
+    lefts: &Lefts,
 ) -> Numbered
     requires { ⌜ (1 ≤ n) × (i + n ≤ 65536) ⌝ }
     requires { ⌜ GivenParts Types level (now ty) (now ends) n at ⌝ }
     requires { ⌜ ReadyNumbered (made-at (now shape) (sum level (now ty) (now ends) n at) q) (now out) ⌝ }
+    requires { ⌜ now lefts ≡ left-sizes ⌝ }
     ensures { λ r. ⌜ PlacedNumbered (made-at (now (shape .entry)) (sum level (now (ty .entry)) (now (ends .entry)) n at) q) i (now (out .entry)) (now (out .exit)) r ⌝ }
 {
     if n == 1 {
-        let one = write_record(ty, ends, at, level, shape, q, out);
+        let one = write_record(ty, ends, at, level, shape, q, out, lefts);
         return Numbered {
             number: i,
             next: one.next,
             len: one.len,
         };
     }
-    let few = btree_split_index(n);
+    let few = btree_split_index(n, lefts);
     if shape[q] == LEFT {
-        return write_sum(ty, ends, at, level, few, i, shape, q + 1, out);
+        return write_sum(ty, ends, at, level, few, i, shape, q + 1, out, lefts);
     }
     let others = n - few;
     write_sum(
@@ -287,6 +312,7 @@ fn write_sum(
         shape,
         q + 1,
         out,
+        lefts,
     )
 }
 
@@ -321,16 +347,29 @@ fn write_list(
     shape: &[u8],
     q: usize,
     out: &mut [u8],
+    lefts: &Lefts,
 ) -> Numbered
     requires { ⌜ FairBound bound ⌝ }
     requires { ⌜ Stands level (now ty) (now ends) at ⌝ }
     requires { ⌜ ReadyNumbered (made-at (now shape) (elements level (now ty) bound at) q) (now out) ⌝ }
+    requires { ⌜ now lefts ≡ left-sizes ⌝ }
     ensures { λ r. ⌜ PlacedNumbered (made-at (now (shape .entry)) (elements level (now (ty .entry)) bound at) q) 0 (now (out .entry)) (now (out .exit)) r ⌝ }
 {
     let front = q + pairs_before(bound);
     let n = held(shape, front, bound.get() / 2);
     // one local for both, as in `write_product`; a block of none passes over its unit
-    let mut side = write_product(ty, ends, at, level, n, Parts::Copies, shape, front + 1, out);
+    let mut side = write_product(
+        ty,
+        ends,
+        at,
+        level,
+        n,
+        Parts::Copies,
+        shape,
+        front + 1,
+        out,
+        lefts,
+    );
     let k = side.len;
     match bound.checked_div2() {
         Bound::Not => Numbered {
@@ -339,7 +378,17 @@ fn write_list(
             len: k,
         },
         Bound::Of(half) => {
-            side = write_list(ty, ends, at, level, half, shape, side.next, &mut out[k..]);
+            side = write_list(
+                ty,
+                ends,
+                at,
+                level,
+                half,
+                shape,
+                side.next,
+                &mut out[k..],
+                lefts,
+            );
             Numbered {
                 number: n + side.number,
                 next: side.next,
@@ -359,10 +408,12 @@ fn write_elements(
     shape: &[u8],
     q: usize,
     out: &mut [u8],
+    lefts: &Lefts,
 ) -> Numbered
     requires { ⌜ FairBound bound ⌝ }
     requires { ⌜ Stands level (now ty) (now ends) at ⌝ }
     requires { ⌜ ReadyNumbered (made-at (now shape) (elements level (now ty) bound at) q) (now out) ⌝ }
+    requires { ⌜ now lefts ≡ left-sizes ⌝ }
     ensures { λ r. ⌜ PlacedNumbered (made-at (now (shape .entry)) (elements level (now (ty .entry)) bound at) q) 0 (now (out .entry)) (now (out .exit)) r ⌝ }
 {
     match bound.checked_div2() {
@@ -374,22 +425,23 @@ fn write_elements(
                     len: 0,
                 };
             }
-            let one = write_record(ty, ends, at, level, shape, q + 1, out);
+            let one = write_record(ty, ends, at, level, shape, q + 1, out, lefts);
             Numbered {
                 number: 1,
                 next: one.next,
                 len: one.len,
             }
         }
-        Bound::Of(_) => write_list(ty, ends, at, level, bound, shape, q, out),
+        Bound::Of(_) => write_list(ty, ends, at, level, bound, shape, q, out, lefts),
     }
 }
 
 // Writes the value file that a shape gives, and answers its length; the bytes behind it stay.
-pub fn write_value(ty: &[u8], ends: &[usize], shape: &[u8], out: &mut [u8]) -> usize
+pub fn write_value(ty: &[u8], ends: &[usize], shape: &[u8], out: &mut [u8], lefts: &Lefts) -> usize
     requires { ⌜ Given 32 false (now ty) (now ends) 0 ⌝ }
     requires { ⌜ Ready (standing (now shape) 32 (now ty) 0 0) (now out) ⌝ }
+    requires { ⌜ now lefts ≡ left-sizes ⌝ }
     ensures { λ r. ⌜ Whole (standing (now (shape .entry)) 32 (now (ty .entry)) 0 0) (now (out .entry)) (now (out .exit)) r ⌝ }
 {
-    write_record(ty, ends, 0, LEVELS, shape, 0, out).len
+    write_record(ty, ends, 0, LEVELS, shape, 0, out, lefts).len
 }

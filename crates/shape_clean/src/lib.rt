@@ -1,6 +1,7 @@
 // Cleaning a shape (R-6), the second pass: a type and a shape that was read before are walked together, and the shape is copied, with a unit at
 // each spot where an empty tuple, an array of 0 or a variant without parts is read.
 // The right side of a pair is written into the rest of the buffer after its left, so that each byte is written once.
+use array::Lefts;
 use array::TreeEnd;
 use array::btree_split_index;
 use array::tree_end;
@@ -13,8 +14,10 @@ use rebuild::form_of;
 use rebuild::record_at;
 use told::hop;
 use types::head_at;
+ghost use mathlib.Core.Path.{_≡_};
 ghost use mathlib.Core.Bool.{false};
 ghost use Prim.Native.Nat.{_≤_};
+ghost use Rattle.array.specs.Lefts.{left-sizes};
 ghost use Rattle.types.specs.Heads.{FairBound};
 ghost use Rattle.types.specs.Trees.{typeOf};
 ghost use Rattle.types.specs.Steps.{Given};
@@ -74,9 +77,11 @@ fn copy_record(
     shape: &[u8],
     p: usize,
     out: &mut [u8],
+    lefts: &Lefts,
 ) -> Copied
     requires { ⌜ Stands level (now ty) (now ends) at ⌝ }
     requires { ⌜ Ready (standing (copier (now shape)) level (now ty) at p) (now out) ⌝ }
+    requires { ⌜ now lefts ≡ left-sizes ⌝ }
     ensures { λ r. ⌜ Placed (standing (copier (now (shape .entry))) level (now (ty .entry)) at p) (now (out .entry)) (now (out .exit)) (r .next) (r .len) ⌝ }
 {
     match form_of(head_at(ty, at)) {
@@ -91,9 +96,10 @@ fn copy_record(
             shape,
             p,
             out,
+            lefts,
         ),
-        Form::Sum(n) => copy_sum(ty, ends, at + 1, level - 1, n, shape, p, out),
-        Form::List(bound) => copy_list(ty, ends, at + 1, level - 1, bound, shape, p, out),
+        Form::Sum(n) => copy_sum(ty, ends, at + 1, level - 1, n, shape, p, out, lefts),
+        Form::List(bound) => copy_list(ty, ends, at + 1, level - 1, bound, shape, p, out, lefts),
         Form::Payload(n) => copy_product(
             ty,
             ends,
@@ -104,6 +110,7 @@ fn copy_record(
             shape,
             p,
             out,
+            lefts,
         ),
     }
 }
@@ -119,10 +126,12 @@ fn copy_product(
     shape: &[u8],
     p: usize,
     out: &mut [u8],
+    lefts: &Lefts,
 ) -> Copied
     requires { ⌜ n ≤ most-parts ⌝ }
     requires { ⌜ GivenParts parts level (now ty) (now ends) n at ⌝ }
     requires { ⌜ Ready (balanced (copier (now shape)) parts level (now ty) (now ends) n at p) (now out) ⌝ }
+    requires { ⌜ now lefts ≡ left-sizes ⌝ }
     ensures { λ r. ⌜ Placed (balanced (copier (now (shape .entry))) parts level (now (ty .entry)) (now (ends .entry)) n at p) (now (out .entry)) (now (out .exit)) (r .next) (r .len) ⌝ }
 {
     if n == 0 {
@@ -132,15 +141,26 @@ fn copy_product(
         // here and not in a function of its own, which would be inlined with slices of its own: the stack's frame stays small
         return match parts {
             Parts::Bits => copy_bit(shape, p, out),
-            Parts::Copies => copy_record(ty, ends, at, level, shape, p, out),
-            Parts::Types => copy_record(ty, ends, at, level, shape, p, out),
+            Parts::Copies => copy_record(ty, ends, at, level, shape, p, out, lefts),
+            Parts::Types => copy_record(ty, ends, at, level, shape, p, out, lefts),
         };
     }
     out[0] = PAIR;
-    let few = btree_split_index(n);
+    let few = btree_split_index(n, lefts);
     let others = n - few;
     // both sides answer into one local, which keeps the stack's frame small
-    let mut side = copy_product(ty, ends, at, level, few, parts, shape, p + 1, &mut out[1..]);
+    let mut side = copy_product(
+        ty,
+        ends,
+        at,
+        level,
+        few,
+        parts,
+        shape,
+        p + 1,
+        &mut out[1..],
+        lefts,
+    );
     let k = side.len + 1;
     let rest = after(ends, at, few, parts);
     side = copy_product(
@@ -153,6 +173,7 @@ fn copy_product(
         shape,
         side.next,
         &mut out[k..],
+        lefts,
     );
     Copied {
         next: side.next,
@@ -170,19 +191,21 @@ fn copy_sum(
     shape: &[u8],
     p: usize,
     out: &mut [u8],
+    lefts: &Lefts,
 ) -> Copied
     requires { ⌜ (1 ≤ n) × (n ≤ most-parts) ⌝ }
     requires { ⌜ GivenParts Types level (now ty) (now ends) n at ⌝ }
     requires { ⌜ Ready (chosen (copier (now shape)) level (now ty) (now ends) n at p) (now out) ⌝ }
+    requires { ⌜ now lefts ≡ left-sizes ⌝ }
     ensures { λ r. ⌜ Placed (chosen (copier (now (shape .entry))) level (now (ty .entry)) (now (ends .entry)) n at p) (now (out .entry)) (now (out .exit)) (r .next) (r .len) ⌝ }
 {
     if n == 1 {
-        return copy_record(ty, ends, at, level, shape, p, out);
+        return copy_record(ty, ends, at, level, shape, p, out, lefts);
     }
-    let few = btree_split_index(n);
+    let few = btree_split_index(n, lefts);
     if record_at(shape, p) == LEFT {
         out[0] = LEFT;
-        let first = copy_sum(ty, ends, at, level, few, shape, p + 1, &mut out[1..]);
+        let first = copy_sum(ty, ends, at, level, few, shape, p + 1, &mut out[1..], lefts);
         return Copied {
             next: first.next,
             len: first.len + 1,
@@ -199,6 +222,7 @@ fn copy_sum(
         shape,
         p + 1,
         &mut out[1..],
+        lefts,
     );
     Copied {
         next: second.next,
@@ -216,10 +240,12 @@ fn copy_block(
     shape: &[u8],
     p: usize,
     out: &mut [u8],
+    lefts: &Lefts,
 ) -> Copied
     requires { ⌜ n ≤ most-parts ⌝ }
     requires { ⌜ Stands level (now ty) (now ends) at ⌝ }
     requires { ⌜ Ready (block-of (copier (now shape)) level (now ty) n at p) (now out) ⌝ }
+    requires { ⌜ now lefts ≡ left-sizes ⌝ }
     ensures { λ r. ⌜ Placed (block-of (copier (now (shape .entry))) level (now (ty .entry)) n at p) (now (out .entry)) (now (out .exit)) (r .next) (r .len) ⌝ }
 {
     if record_at(shape, p) == LEFT {
@@ -241,6 +267,7 @@ fn copy_block(
         shape,
         p + 1,
         &mut out[1..],
+        lefts,
     );
     Copied {
         next: all.next,
@@ -258,14 +285,16 @@ fn copy_list(
     shape: &[u8],
     p: usize,
     out: &mut [u8],
+    lefts: &Lefts,
 ) -> Copied
     requires { ⌜ FairBound bound ⌝ }
     requires { ⌜ Stands level (now ty) (now ends) at ⌝ }
     requires { ⌜ Ready (listed (copier (now shape)) level (now ty) bound at p) (now out) ⌝ }
+    requires { ⌜ now lefts ≡ left-sizes ⌝ }
     ensures { λ r. ⌜ Placed (listed (copier (now (shape .entry))) level (now (ty .entry)) bound at p) (now (out .entry)) (now (out .exit)) (r .next) (r .len) ⌝ }
 {
     match bound.checked_div2() {
-        Bound::Not => copy_block(ty, ends, at, level, 1, shape, p, out),
+        Bound::Not => copy_block(ty, ends, at, level, 1, shape, p, out, lefts),
         Bound::Of(half) => {
             out[0] = PAIR;
             // the block and the rest answer into one local, too
@@ -278,9 +307,20 @@ fn copy_list(
                 shape,
                 p + 1,
                 &mut out[1..],
+                lefts,
             );
             let k = block.len + 1;
-            block = copy_list(ty, ends, at, level, half, shape, block.next, &mut out[k..]);
+            block = copy_list(
+                ty,
+                ends,
+                at,
+                level,
+                half,
+                shape,
+                block.next,
+                &mut out[k..],
+                lefts,
+            );
             Copied {
                 next: block.next,
                 len: block.len + k,
@@ -290,10 +330,17 @@ fn copy_list(
 }
 
 // Writes the cleaned shape over the front of `out`, and answers its length; the bytes behind it stay.
-pub fn write_cleaned(ty: &[u8], ends: &[usize], shape: &[u8], out: &mut [u8]) -> usize
+pub fn write_cleaned(
+    ty: &[u8],
+    ends: &[usize],
+    shape: &[u8],
+    out: &mut [u8],
+    lefts: &Lefts,
+) -> usize
     requires { ⌜ Given 32 false (now ty) (now ends) 0 ⌝ }
     requires { ⌜ Ready (copies (now shape) (typeOf (now ty))) (now out) ⌝ }
+    requires { ⌜ now lefts ≡ left-sizes ⌝ }
     ensures { λ r. ⌜ Shaped (copies (now (shape .entry)) (typeOf (now (ty .entry)))) (now (out .entry)) (now (out .exit)) r ⌝ }
 {
-    copy_record(ty, ends, 0, 32, shape, 0, out).len
+    copy_record(ty, ends, 0, 32, shape, 0, out, lefts).len
 }

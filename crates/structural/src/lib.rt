@@ -1,5 +1,6 @@
 // The lowered type of a type file, after types/structural.rs: one byte a record, parent first.
 // The right side of a tree is written into the rest of the buffer after its left, so that each byte is written once; a right side that is the same as the left is copied from it.
+use array::Lefts;
 use array::btree_split_index;
 use num::Bound;
 use num::NonZeroPow2Usize;
@@ -11,6 +12,7 @@ ghost use mathlib.Core.List.{_++_};
 ghost use Prim.Native.Nat.{_+_, _≤_};
 ghost use lib.ListN.{length, take};
 ghost use Rattle.model.specs.Structural.{𝟙, _⊕_, type-records};
+ghost use Rattle.array.specs.Lefts.{left-sizes};
 ghost use Rattle.types.specs.Heads.{FairBound};
 ghost use Rattle.types.specs.Steps.{Given};
 ghost use Rattle.types.specs.Lows.{low};
@@ -126,14 +128,22 @@ fn write_bit(out: &mut [u8]) -> usize
 }
 
 // Writes what stands at record `at`, a type or a Variant's payload, with `level` levels from there on, and answers the length.
-fn write_record(ty: &[u8], ends: &[usize], at: usize, level: usize, out: &mut [u8]) -> usize
+fn write_record(
+    ty: &[u8],
+    ends: &[usize],
+    at: usize,
+    level: usize,
+    out: &mut [u8],
+    lefts: &Lefts,
+) -> usize
     requires { ⌜ Stands level (now ty) (now ends) at ⌝ }
     requires { ⌜ Room (standing level (now ty) at) (now out) ⌝ }
+    requires { ⌜ now lefts ≡ left-sizes ⌝ }
     ensures { λ r. ⌜ Wrote (type-records (standing level (now (ty .entry)) at)) (now (out .entry)) (now (out .exit)) r ⌝ }
 {
     match form_of(head_at(ty, at)) {
-        Form::Tree(parts, n) => write_tree(ty, ends, at + 1, level - 1, n, parts, out).len,
-        Form::List(bound) => write_list(ty, ends, at + 1, level - 1, bound, out),
+        Form::Tree(parts, n) => write_tree(ty, ends, at + 1, level - 1, n, parts, out, lefts).len,
+        Form::List(bound) => write_list(ty, ends, at + 1, level - 1, bound, out, lefts),
     }
 }
 
@@ -145,9 +155,11 @@ fn write_part(
     level: usize,
     parts: Parts,
     out: &mut [u8],
+    lefts: &Lefts,
 ) -> Written
     requires { ⌜ GivenPart parts level (now ty) (now ends) at ⌝ }
     requires { ⌜ Room (part parts level (now ty) at) (now out) ⌝ }
+    requires { ⌜ now lefts ≡ left-sizes ⌝ }
     ensures { λ r. ⌜ Placed (part parts level (now (ty .entry)) at) (after parts level (now (ty .entry)) at) (now (out .entry)) (now (out .exit)) r ⌝ }
 {
     match parts {
@@ -157,15 +169,15 @@ fn write_part(
         },
         Parts::Copies => Written {
             next: at,
-            len: write_record(ty, ends, at, level, out),
+            len: write_record(ty, ends, at, level, out, lefts),
         },
         Parts::Types => Written {
             next: ends[at],
-            len: write_record(ty, ends, at, level, out),
+            len: write_record(ty, ends, at, level, out, lefts),
         },
         Parts::Choices => Written {
             next: ends[at],
-            len: write_record(ty, ends, at, level, out),
+            len: write_record(ty, ends, at, level, out, lefts),
         },
     }
 }
@@ -179,10 +191,12 @@ fn write_tree(
     n: usize,
     parts: Parts,
     out: &mut [u8],
+    lefts: &Lefts,
 ) -> Written
     requires { ⌜ n ≤ most-parts ⌝ }
     requires { ⌜ GivenParts parts level (now ty) (now ends) n at ⌝ }
     requires { ⌜ Room (balanced parts level (now ty) n at) (now out) ⌝ }
+    requires { ⌜ now lefts ≡ left-sizes ⌝ }
     ensures { λ r. ⌜ Placed (balanced parts level (now (ty .entry)) n at) (skip parts level (now (ty .entry)) n at) (now (out .entry)) (now (out .exit)) r ⌝ }
 {
     if n == 0 {
@@ -192,12 +206,12 @@ fn write_tree(
         };
     }
     if n == 1 {
-        return write_part(ty, ends, at, level, parts, out);
+        return write_part(ty, ends, at, level, parts, out, lefts);
     }
     out[0] = joint(parts);
-    let few = btree_split_index(n);
+    let few = btree_split_index(n, lefts);
     let others = n - few;
-    let left = write_tree(ty, ends, at, level, few, parts, &mut out[1..]);
+    let left = write_tree(ty, ends, at, level, few, parts, &mut out[1..], lefts);
     if few == others && are_same(parts) {
         return Written {
             next: at,
@@ -205,7 +219,16 @@ fn write_tree(
         };
     }
     let k = left.len + 1;
-    let right = write_tree(ty, ends, left.next, level, others, parts, &mut out[k..]);
+    let right = write_tree(
+        ty,
+        ends,
+        left.next,
+        level,
+        others,
+        parts,
+        &mut out[k..],
+        lefts,
+    );
     Written {
         next: right.next,
         len: right.len + k,
@@ -220,15 +243,17 @@ fn write_block(
     level: usize,
     n: usize,
     out: &mut [u8],
+    lefts: &Lefts,
 ) -> usize
     requires { ⌜ n ≤ most-parts ⌝ }
     requires { ⌜ Stands level (now ty) (now ends) at ⌝ }
     requires { ⌜ Room (block-of level (now ty) n at) (now out) ⌝ }
+    requires { ⌜ now lefts ≡ left-sizes ⌝ }
     ensures { λ r. ⌜ Wrote (type-records (block-of level (now (ty .entry)) n at)) (now (out .entry)) (now (out .exit)) r ⌝ }
 {
     out[0] = SUM;
     out[1] = UNIT;
-    write_tree(ty, ends, at, level, n, Parts::Copies, &mut out[2..]).len + 2
+    write_tree(ty, ends, at, level, n, Parts::Copies, &mut out[2..], lefts).len + 2
 }
 
 // Writes the list with the bound of the type at record `at`, and answers its length: with the bound 2 a block of 1, else a block of half the bound and the list with that bound.
@@ -239,28 +264,38 @@ fn write_list(
     level: usize,
     bound: NonZeroPow2Usize,
     out: &mut [u8],
+    lefts: &Lefts,
 ) -> usize
     requires { ⌜ FairBound bound ⌝ }
     requires { ⌜ Stands level (now ty) (now ends) at ⌝ }
     requires { ⌜ Room (listed level (now ty) bound at) (now out) ⌝ }
+    requires { ⌜ now lefts ≡ left-sizes ⌝ }
     ensures { λ r. ⌜ Wrote (type-records (listed level (now (ty .entry)) bound at)) (now (out .entry)) (now (out .exit)) r ⌝ }
 {
     match bound.checked_div2() {
-        Bound::Not => write_block(ty, ends, at, level, 1, out),
+        Bound::Not => write_block(ty, ends, at, level, 1, out, lefts),
         Bound::Of(half) => {
             out[0] = PRODUCT;
-            let k = write_block(ty, ends, at, level, half.get(), &mut out[1..]) + 1;
-            write_list(ty, ends, at, level, half, &mut out[k..]) + k
+            let k = write_block(ty, ends, at, level, half.get(), &mut out[1..], lefts) + 1;
+            write_list(ty, ends, at, level, half, &mut out[k..], lefts) + k
         }
     }
 }
 
 // Writes the lowered type of the type at record `at`, with `level` levels from there on, and answers its length; the bytes behind it stay.
 // A Never, which has no lowered type, is written as a unit.
-pub fn write_lowered(ty: &[u8], ends: &[usize], at: usize, level: usize, out: &mut [u8]) -> usize
+pub fn write_lowered(
+    ty: &[u8],
+    ends: &[usize],
+    at: usize,
+    level: usize,
+    out: &mut [u8],
+    lefts: &Lefts,
+) -> usize
     requires { ⌜ Given level false (now ty) (now ends) at ⌝ }
     requires { ⌜ Room (low level false (now ty) at) (now out) ⌝ }
+    requires { ⌜ now lefts ≡ left-sizes ⌝ }
     ensures { λ r. ⌜ Wrote (type-records (low level false (now (ty .entry)) at)) (now (out .entry)) (now (out .exit)) r ⌝ }
 {
-    write_record(ty, ends, at, level, out)
+    write_record(ty, ends, at, level, out, lefts)
 }

@@ -1,5 +1,6 @@
 // The columns of a type file's table (01's own, ported from no Rust file), a number for each record: its end, and the facts, the records of its lowered type and the bits of its frame.
 // With it rows 6 and 7 are decided. Sizes and widths are cut at 65,537, one more than a lowered type may have records.
+use array::Lefts;
 use array::btree_split_index;
 use num::NonZeroPow2Usize;
 use num::Pow2Usize;
@@ -13,6 +14,7 @@ ghost use mathlib.Core.Bool.{_||_};
 ghost use Prim.Native.Nat.{_≤_, _<_, _-_, _+_, _*_, max};
 ghost use lib.ListN.{length, getD, take, drop};
 ghost use Rattle.model.specs.Balanced.{btree};
+ghost use Rattle.array.specs.Lefts.{left-sizes};
 ghost use Rattle.types.specs.Heads.{Fair, FairWidth, FairBound};
 ghost use Rattle.table.specs.Lowering.{isNever};
 ghost use Rattle.table.specs.Measuring.{Measurable, Measures, Entered};
@@ -93,8 +95,9 @@ fn sum_entries(ends: &[usize], sizes: &[usize], widths: &[usize], p: usize, n: u
 }
 
 // The width of the balanced sum of what the n records from p on hold, and the place after them.
-fn sum_width(ends: &[usize], widths: &[usize], p: usize, n: usize) -> Sum
+fn sum_width(ends: &[usize], widths: &[usize], p: usize, n: usize, lefts: &Lefts) -> Sum
     requires { ⌜ (1 ≤ n) × (n ≤ 65536) ⌝ }
+    requires { ⌜ now lefts ≡ left-sizes ⌝ }
     ensures { λ r. ⌜ r ≡ sumWidth (btree n) (now (ends .entry)) (now (widths .entry)) p ⌝ }
 {
     if n == 1 {
@@ -103,9 +106,9 @@ fn sum_width(ends: &[usize], widths: &[usize], p: usize, n: usize) -> Sum
             width: entry_at(widths, p),
         };
     }
-    let h = btree_split_index(n);
-    let l = sum_width(ends, widths, p, h);
-    let r = sum_width(ends, widths, l.next, n - h);
+    let h = btree_split_index(n, lefts);
+    let l = sum_width(ends, widths, p, h, lefts);
+    let r = sum_width(ends, widths, l.next, n - h, lefts);
     Sum {
         next: r.next,
         width: cut_off(larger(l.width, r.width) + 1),
@@ -204,12 +207,20 @@ fn list_facts(sizes: &[usize], widths: &[usize], b: NonZeroPow2Usize, p: usize) 
 }
 
 // The facts of an Enum whose n Variants stand from p on.
-fn enum_facts(ends: &[usize], sizes: &[usize], widths: &[usize], n: usize, p: usize) -> Facts
+fn enum_facts(
+    ends: &[usize],
+    sizes: &[usize],
+    widths: &[usize],
+    n: usize,
+    p: usize,
+    lefts: &Lefts,
+) -> Facts
     requires { ⌜ (1 ≤ n) × (n < 65536) ⌝ }
+    requires { ⌜ now lefts ≡ left-sizes ⌝ }
     ensures { λ r. ⌜ r ≡ enumFacts (now (ends .entry)) (now (sizes .entry)) (now (widths .entry)) n p ⌝ }
 {
     let size = cut_off(sum_entries(ends, sizes, widths, p, n).size + (n - 1));
-    let width = sum_width(ends, widths, p, n).width;
+    let width = sum_width(ends, widths, p, n, lefts).width;
     Facts {
         size: size,
         width: width,
@@ -217,8 +228,16 @@ fn enum_facts(ends: &[usize], sizes: &[usize], widths: &[usize], n: usize, p: us
 }
 
 // The facts of a record that says this, from the entries of its children, the first of which stands at p; those of a unit where there is no type.
-fn facts_of(h: Head, ends: &[usize], sizes: &[usize], widths: &[usize], p: usize) -> Facts
+fn facts_of(
+    h: Head,
+    ends: &[usize],
+    sizes: &[usize],
+    widths: &[usize],
+    p: usize,
+    lefts: &Lefts,
+) -> Facts
     requires { ⌜ Fair h ⌝ }
+    requires { ⌜ now lefts ≡ left-sizes ⌝ }
     ensures { λ r. ⌜ r ≡ factsOf h (now (ends .entry)) (now (sizes .entry)) (now (widths .entry)) p ⌝ }
 {
     match h {
@@ -232,7 +251,7 @@ fn facts_of(h: Head, ends: &[usize], sizes: &[usize], widths: &[usize], p: usize
         Head::Tuple(n) => product_facts(sum_entries(ends, sizes, widths, p, n), n),
         Head::Array(n) => array_facts(sizes, widths, n, p),
         Head::Listed(b) => list_facts(sizes, widths, b, p),
-        Head::Variants(n) => enum_facts(ends, sizes, widths, n, p),
+        Head::Variants(n) => enum_facts(ends, sizes, widths, n, p, lefts),
         Head::Payload(n) => product_facts(sum_entries(ends, sizes, widths, p, n), n),
     }
 }
@@ -265,14 +284,15 @@ fn one_of(a: bool, b: bool) -> bool
 }
 
 // Puts down the entries of record i by those of the records behind it, and tells whether a Never stands there and whether it is too large.
-fn enter(ty: &[u8], ends: &[usize], facts: &mut [usize], i: usize) -> Flags
+fn enter(ty: &[u8], ends: &[usize], facts: &mut [usize], i: usize, lefts: &Lefts) -> Flags
     requires { ⌜ i < 1024 ⌝ }
     requires { ⌜ 1024 + i < length (now facts) ⌝ }
+    requires { ⌜ now lefts ≡ left-sizes ⌝ }
     ensures { λ r. ⌜ Entered (now (ty .entry)) (now (ends .entry)) i (take 1024 (now (facts .entry))) (drop 1024 (now (facts .entry))) r (take 1024 (now (facts .exit))) (drop 1024 (now (facts .exit))) ⌝ }
 {
     let h = head_at(ty, i);
     let known = &facts[..];
-    let f = facts_of(h, ends, &known[..RECORDS], &known[RECORDS..], i + 1);
+    let f = facts_of(h, ends, &known[..RECORDS], &known[RECORDS..], i + 1, lefts);
     facts[i] = f.size;
     facts[RECORDS + i] = f.width;
     Flags {
@@ -282,8 +302,9 @@ fn enter(ty: &[u8], ends: &[usize], facts: &mut [usize], i: usize) -> Flags
 }
 
 // Puts down the facts of an accepted type file of n records, each once, and tells whether a Never stands somewhere and whether something is too large.
-pub fn measure(ty: &[u8], ends: &[usize], facts: &mut [usize], n: usize) -> Flags
+pub fn measure(ty: &[u8], ends: &[usize], facts: &mut [usize], n: usize, lefts: &Lefts) -> Flags
     requires { ⌜ Measurable (now ty) (now ends) (take 1024 (now facts)) (drop 1024 (now facts)) n ⌝ }
+    requires { ⌜ now lefts ≡ left-sizes ⌝ }
     ensures { λ r. ⌜ Measures (now (ty .entry)) r (take 1024 (now (facts .exit))) (drop 1024 (now (facts .exit))) ⌝ }
 {
     let mut never = false;
@@ -291,7 +312,7 @@ pub fn measure(ty: &[u8], ends: &[usize], facts: &mut [usize], n: usize) -> Flag
     let mut i = n;
     while i > 0 {
         i -= 1;
-        let r = enter(ty, ends, facts, i);
+        let r = enter(ty, ends, facts, i, lefts);
         never = one_of(r.never, never);
         large = one_of(r.large, large);
     }
@@ -302,14 +323,15 @@ pub fn measure(ty: &[u8], ends: &[usize], facts: &mut [usize], n: usize) -> Flag
 }
 
 // Rows 1 to 7: how many records a type file that lowers has, or why it is refused; where it is accepted, its ends and facts are put down.
-pub fn tabulate(ty: &[u8], ends: &mut [usize], facts: &mut [usize]) -> TypeAnswer
+pub fn tabulate(ty: &[u8], ends: &mut [usize], facts: &mut [usize], lefts: &Lefts) -> TypeAnswer
     requires { ⌜ 1024 ≤ length (now ends) ⌝ }
     requires { ⌜ length (now facts) ≡ 2048 ⌝ }
+    requires { ⌜ now lefts ≡ left-sizes ⌝ }
     ensures { λ r. ⌜ Tabled (now (ty .entry)) r (now (ends .exit)) (take 1024 (now (facts .exit))) (drop 1024 (now (facts .exit))) ⌝ }
 {
     match check_type(ty, ends) {
         TypeAnswer::Ok(n) => {
-            let f = measure(ty, ends, facts, n);
+            let f = measure(ty, ends, facts, n, lefts);
             if f.never {
                 return TypeAnswer::Refused(Refusal::NeverStands);
             }

@@ -30,7 +30,7 @@ use Rattle.accept.specs.Laws.Walking.{given-rest, row-wide}
 use Rattle.unframe.specs.declared.Numbered.{Numbered}
 use Rattle.unframe.specs.Forms.{standing, both, row, block, both-numbered, listed, Ready, ReadyNumbered, Placed, PlacedNumbered}
 use Rattle.unframe.specs.Laws.Formed.{Marked, Counted}
-use Rattle.unframe.specs.Laws.Lists.{block-none, block-all, Halved}
+use Rattle.unframe.specs.Laws.Lists.{row-one, block-none, block-all, Two, Halved}
 use Rattle.record.specs.Laws.Writing.{first-room, first-fits, second-room, both-done, both-small, record-room, below-room, below-length, record-small, record-done, record-alone, returned, integer-put}
 
 -- WHAT IS THERE IS ONE THING
@@ -240,6 +240,17 @@ numbered-as e r = record { number = r .number; recs = r .recs; there = sym e ∙
 
 pub placed-numbered-as : {o u : Option (ℕ × List Rec)} {before after : List ℕ} {n : Numbered} → o ≡ u → PlacedNumbered u before after n → PlacedNumbered o before after n
 placed-numbered-as e v = record { recs = v .recs; there = e ∙ v .there; wrote = v .wrote }
+
+-- with the bound 2: its one element, or nothing
+module _ {b : NonZeroPow2Usize} {d : ℕ} {s : List ℕ} {p : ℕ} (two : Two b d s p) (fr : List ℕ) (bit : ℕ) where
+  pub two-ready : {out : List ℕ} → ReadyNumbered (listed d s b p fr bit) out → tag-at fr bit ≡ true → Ready (standing d s p fr (bit + 1)) out
+  two-ready r t = ready-as (row-one Copies d s p fr (bit + 1)) (block-ready d s 1 p fr bit (numbered-as (two .same fr bit) r) t)
+
+  pub two-placed : {before after : List ℕ} {k : ℕ} → tag-at fr bit ≡ true → Placed (standing d s p fr (bit + 1)) before after k → PlacedNumbered (listed d s b p fr bit) before after (record { number = 1; len = k })
+  two-placed t v = placed-numbered-as (two .same fr bit) (block-placed d s 1 p fr bit t (placed-as (row-one Copies d s p fr (bit + 1)) v))
+
+  pub two-missing : (out : List ℕ) → tag-at fr bit ≡ false → PlacedNumbered (listed d s b p fr bit) out out (record { number = 0; len = 0 })
+  two-missing out t = placed-numbered-as (two .same fr bit) (block-missing d s 1 p fr bit out t)
 
 -- a block's tag and its elements
 pub block-wide : (t : SType) (n w : ℕ) → w ≡ width t → width (block-type n t) ≡ suc (n * w)

@@ -1,5 +1,6 @@
 // The reader of a frame into a value file (01, 'Frame'; ported from no Rust file): a type and a frame are walked together, and the value's records are written.
 // The frame was accepted before, so nothing is tested again.
+use array::Lefts;
 use array::btree_split_index;
 use num::Bound;
 use num::NonZeroPow2Usize;
@@ -19,6 +20,7 @@ ghost use Rattle.model.specs.Balanced.{btree};
 ghost use Rattle.model.specs.Structural.{block-type};
 ghost use Rattle.model.specs.ValueFiles.{bit-number};
 ghost use Rattle.model.specs.Frames.{width};
+ghost use Rattle.array.specs.Lefts.{left-sizes};
 ghost use Rattle.types.specs.Heads.{FairBound};
 ghost use Rattle.types.specs.Steps.{Given};
 ghost use Rattle.structural.specs.Forms.{Stands};
@@ -57,10 +59,18 @@ fn bit_number(frame: &[u8], bit: usize) -> usize
 }
 
 // The one of the n choices from record `at` on that the tags from `bit` on lead to.
-pub fn find_choice(ends: &[usize], at: usize, n: usize, frame: &[u8], bit: usize) -> Choice
+pub fn find_choice(
+    ends: &[usize],
+    at: usize,
+    n: usize,
+    frame: &[u8],
+    bit: usize,
+    lefts: &Lefts,
+) -> Choice
     requires { ⌜ (1 ≤ n) × (n ≤ 65536) ⌝ }
     requires { ⌜ Hops (now ends) n at ⌝ }
     requires { ⌜ Inside (now frame) bit (height (btree n)) ⌝ }
+    requires { ⌜ now lefts ≡ left-sizes ⌝ }
     ensures { λ r. ⌜ Chosen (now (ends .entry)) at (choice-in n (now (frame .entry)) bit) r ⌝ }
 {
     if n == 1 {
@@ -70,17 +80,17 @@ pub fn find_choice(ends: &[usize], at: usize, n: usize, frame: &[u8], bit: usize
             bit: bit,
         };
     }
-    let few = btree_split_index(n);
+    let few = btree_split_index(n, lefts);
     if bit_at(frame, bit) {
         let others = n - few;
-        let other = find_choice(ends, hop(ends, at, few), others, frame, bit + 1);
+        let other = find_choice(ends, hop(ends, at, few), others, frame, bit + 1, lefts);
         return Choice {
             number: few + other.number,
             at: other.at,
             bit: other.bit,
         };
     }
-    find_choice(ends, at, few, frame, bit + 1)
+    find_choice(ends, at, few, frame, bit + 1, lefts)
 }
 
 // Writes the value that stands in the frame from `bit` on as one of what stands at record `at`, a type or a Variant's payload, with `level` levels from there on, and answers the bytes written.
@@ -93,11 +103,13 @@ pub fn write_record(
     frame: &[u8],
     bit: usize,
     out: &mut [u8],
+    lefts: &Lefts,
 ) -> usize
     requires { ⌜ Stands level (now ty) (now ends) at ⌝ }
     requires { ⌜ Wide (now ty) (now ends) (now widths) ⌝ }
     requires { ⌜ Inside (now frame) bit (width (structural.standing level (now ty) at)) ⌝ }
     requires { ⌜ Ready (standing level (now ty) at (now frame) bit) (now out) ⌝ }
+    requires { ⌜ now lefts ≡ left-sizes ⌝ }
     ensures { λ r. ⌜ Placed (standing level (now (ty .entry)) at (now (frame .entry)) bit) (now (out .entry)) (now (out .exit)) r ⌝ }
 {
     let h = head_at(ty, at);
@@ -124,12 +136,13 @@ pub fn write_record(
                 frame,
                 bit,
                 &mut out[RECORD..],
+                lefts,
             );
             write_mark(out, h, n);
             k + RECORD
         }
         Form::Sum(n) => {
-            let choice = find_choice(ends, at + 1, n, frame, bit);
+            let choice = find_choice(ends, at + 1, n, frame, bit, lefts);
             let k = write_record(
                 ty,
                 ends,
@@ -139,12 +152,13 @@ pub fn write_record(
                 frame,
                 choice.bit,
                 &mut out[RECORD..],
+                lefts,
             );
             write_mark(out, h, choice.number);
             k + RECORD
         }
         Form::List(bound) => {
-            let list = write_list(
+            let list = write_elements(
                 ty,
                 ends,
                 widths,
@@ -154,6 +168,7 @@ pub fn write_record(
                 frame,
                 bit,
                 &mut out[RECORD..],
+                lefts,
             );
             write_mark(out, h, list.number);
             list.len + RECORD
@@ -169,6 +184,7 @@ pub fn write_record(
             frame,
             bit,
             out,
+            lefts,
         ),
     }
 }
@@ -185,11 +201,13 @@ fn write_row(
     frame: &[u8],
     bit: usize,
     out: &mut [u8],
+    lefts: &Lefts,
 ) -> usize
     requires { ⌜ GivenParts parts level (now ty) (now ends) n at ⌝ }
     requires { ⌜ Wide (now ty) (now ends) (now widths) ⌝ }
     requires { ⌜ Inside (now frame) bit (row-width parts level (now ty) n at) ⌝ }
     requires { ⌜ Ready (row parts level (now ty) n at (now frame) bit) (now out) ⌝ }
+    requires { ⌜ now lefts ≡ left-sizes ⌝ }
     ensures { λ r. ⌜ Placed (row parts level (now (ty .entry)) n at (now (frame .entry)) bit) (now (out .entry)) (now (out .exit)) r ⌝ }
 {
     let mut place = at;
@@ -197,7 +215,18 @@ fn write_row(
     let mut k = 0;
     let mut left = n;
     while 0 < left {
-        k = write_record(ty, ends, widths, place, level, frame, here, &mut out[k..]) + k;
+        k = write_record(
+            ty,
+            ends,
+            widths,
+            place,
+            level,
+            frame,
+            here,
+            &mut out[k..],
+            lefts,
+        )
+            + k;
         here += widths[place];
         place = after_part(ends, place, parts);
         left -= 1;
@@ -216,11 +245,13 @@ fn write_block(
     frame: &[u8],
     bit: usize,
     out: &mut [u8],
+    lefts: &Lefts,
 ) -> Numbered
     requires { ⌜ Stands level (now ty) (now ends) at ⌝ }
     requires { ⌜ Wide (now ty) (now ends) (now widths) ⌝ }
     requires { ⌜ Inside (now frame) bit (width (block-type n (structural.standing level (now ty) at))) ⌝ }
     requires { ⌜ ReadyNumbered (block level (now ty) n at (now frame) bit) (now out) ⌝ }
+    requires { ⌜ now lefts ≡ left-sizes ⌝ }
     ensures { λ r. ⌜ PlacedNumbered (block level (now (ty .entry)) n at (now (frame .entry)) bit) (now (out .entry)) (now (out .exit)) r ⌝ }
 {
     if bit_at(frame, bit) {
@@ -237,6 +268,7 @@ fn write_block(
                 frame,
                 bit + 1,
                 out,
+                lefts,
             ),
         };
     }
@@ -254,19 +286,21 @@ fn write_list(
     frame: &[u8],
     bit: usize,
     out: &mut [u8],
+    lefts: &Lefts,
 ) -> Numbered
     requires { ⌜ FairBound bound ⌝ }
     requires { ⌜ Stands level (now ty) (now ends) at ⌝ }
     requires { ⌜ Wide (now ty) (now ends) (now widths) ⌝ }
     requires { ⌜ Inside (now frame) bit (width (structural.listed level (now ty) bound at)) ⌝ }
     requires { ⌜ ReadyNumbered (listed level (now ty) bound at (now frame) bit) (now out) ⌝ }
+    requires { ⌜ now lefts ≡ left-sizes ⌝ }
     ensures { λ r. ⌜ PlacedNumbered (listed level (now (ty .entry)) bound at (now (frame .entry)) bit) (now (out .entry)) (now (out .exit)) r ⌝ }
 {
     match bound.checked_div2() {
-        Bound::Not => write_block(ty, ends, widths, at, level, 1, frame, bit, out),
+        Bound::Not => write_block(ty, ends, widths, at, level, 1, frame, bit, out, lefts),
         Bound::Of(half) => {
             let n = half.get();
-            let block = write_block(ty, ends, widths, at, level, n, frame, bit, out);
+            let block = write_block(ty, ends, widths, at, level, n, frame, bit, out, lefts);
             let k = block.len;
             let next = bit + 1 + n * widths[at];
             let others = write_list(
@@ -279,12 +313,48 @@ fn write_list(
                 frame,
                 next,
                 &mut out[k..],
+                lefts,
             );
             Numbered {
                 number: block.number + others.number,
                 len: others.len + k,
             }
         }
+    }
+}
+
+// The same as `write_list`; with the bound 2, which is an Option, without a call for its block.
+fn write_elements(
+    ty: &[u8],
+    ends: &[usize],
+    widths: &[usize],
+    at: usize,
+    level: usize,
+    bound: NonZeroPow2Usize,
+    frame: &[u8],
+    bit: usize,
+    out: &mut [u8],
+    lefts: &Lefts,
+) -> Numbered
+    requires { ⌜ FairBound bound ⌝ }
+    requires { ⌜ Stands level (now ty) (now ends) at ⌝ }
+    requires { ⌜ Wide (now ty) (now ends) (now widths) ⌝ }
+    requires { ⌜ Inside (now frame) bit (width (structural.listed level (now ty) bound at)) ⌝ }
+    requires { ⌜ ReadyNumbered (listed level (now ty) bound at (now frame) bit) (now out) ⌝ }
+    requires { ⌜ now lefts ≡ left-sizes ⌝ }
+    ensures { λ r. ⌜ PlacedNumbered (listed level (now (ty .entry)) bound at (now (frame .entry)) bit) (now (out .entry)) (now (out .exit)) r ⌝ }
+{
+    match bound.checked_div2() {
+        Bound::Not => {
+            if bit_at(frame, bit) {
+                return Numbered {
+                    number: 1,
+                    len: write_record(ty, ends, widths, at, level, frame, bit + 1, out, lefts),
+                };
+            }
+            Numbered { number: 0, len: 0 }
+        }
+        Bound::Of(_) => write_list(ty, ends, widths, at, level, bound, frame, bit, out, lefts),
     }
 }
 
@@ -295,12 +365,14 @@ pub fn write_value(
     widths: &[usize],
     frame: &[u8],
     out: &mut [u8],
+    lefts: &Lefts,
 ) -> usize
     requires { ⌜ Given 32 false (now ty) (now ends) 0 ⌝ }
     requires { ⌜ Wide (now ty) (now ends) (now widths) ⌝ }
     requires { ⌜ Inside (now frame) 0 (width (structural.standing 32 (now ty) 0)) ⌝ }
     requires { ⌜ Ready (standing 32 (now ty) 0 (now frame) 0) (now out) ⌝ }
+    requires { ⌜ now lefts ≡ left-sizes ⌝ }
     ensures { λ r. ⌜ Placed (standing 32 (now (ty .entry)) 0 (now (frame .entry)) 0) (now (out .entry)) (now (out .exit)) r ⌝ }
 {
-    write_record(ty, ends, widths, 0, LEVELS, frame, 0, out)
+    write_record(ty, ends, widths, 0, LEVELS, frame, 0, out, lefts)
 }

@@ -1,5 +1,6 @@
 // Value files against a type, after value.rs, whose makers of values refuse what rows 16, 21 and 22 refuse here. Both are walked in lock step: where the value ends and how many records its shape has, or the fault that comes first.
 // Shape lengths are cut at 65,537, one more than a shape may have records.
+use array::Lefts;
 use array::btree_split_index;
 use num::NonZeroPow2Usize;
 use num::Pow2Usize;
@@ -15,6 +16,7 @@ ghost use mathlib.Core.Bool.{true, false};
 ghost use Prim.Native.Nat.{_≤_, _<_, _+_, _*_, _/_, _^_};
 ghost use lib.ListN.{length};
 ghost use Rattle.model.specs.Balanced.{btree};
+ghost use Rattle.array.specs.Lefts.{left-sizes};
 ghost use Rattle.types.specs.Heads.{Fair, FairWidth, FairBound};
 ghost use Rattle.types.specs.Steps.{Given, GivenRow};
 ghost use Rattle.types.specs.Trees.{tree, treev, kids};
@@ -106,18 +108,19 @@ fn list_blocks(e: usize, m: usize, k: usize) -> usize
 }
 
 // The tags that lead to leaf i of n, added to k.
-fn enum_tags(n: usize, i: usize, k: usize) -> usize
+fn enum_tags(n: usize, i: usize, k: usize, lefts: &Lefts) -> usize
     requires { ⌜ n ≤ 65536 ⌝ }
+    requires { ⌜ now lefts ≡ left-sizes ⌝ }
     ensures { λ r. ⌜ r ≡ tags (btree n) i k ⌝ }
 {
     if n < 2 {
         return k;
     }
-    let h = btree_split_index(n);
+    let h = btree_split_index(n, lefts);
     if i < h {
-        return enum_tags(h, i, sum(k, 1));
+        return enum_tags(h, i, sum(k, 1), lefts);
     }
-    enum_tags(n - h, i - h, sum(k, 1))
+    enum_tags(n - h, i - h, sum(k, 1), lefts)
 }
 
 // The place after i subtrees from p on; 0 past the column's end.
@@ -303,13 +306,14 @@ fn open_list(c: Count, b: NonZeroPow2Usize) -> Opens
 }
 
 // An Enum of n Variants whose record says this number.
-fn open_enum(c: Count, n: usize) -> Opens
+fn open_enum(c: Count, n: usize, lefts: &Lefts) -> Opens
     requires { ⌜ n ≤ 65536 ⌝ }
+    requires { ⌜ now lefts ≡ left-sizes ⌝ }
     ensures { λ r. ⌜ r ≡ enum-opens c n ⌝ }
 {
     match c {
         Count::Of(i) => if i < n {
-            Opens::Case(i, enum_tags(n, i, 0))
+            Opens::Case(i, enum_tags(n, i, 0, lefts))
         } else {
             Opens::Wrong(Refusal::NotOneValue)
         },
@@ -318,8 +322,9 @@ fn open_enum(c: Count, n: usize) -> Opens
 }
 
 // What record v calls for as a value of a type whose record says this.
-fn open_record(h: Head, val: &[u8], v: usize) -> Opens
+fn open_record(h: Head, val: &[u8], v: usize, lefts: &Lefts) -> Opens
     requires { ⌜ Fair h ⌝ }
+    requires { ⌜ now lefts ≡ left-sizes ⌝ }
     ensures { λ r. ⌜ r ≡ opens-of h (now (val .entry)) v ⌝ }
 {
     match h {
@@ -345,7 +350,7 @@ fn open_record(h: Head, val: &[u8], v: usize) -> Opens
         Head::Tuple(n) => on_count(count_of(val, v, 5), n, Opens::Parts(n)),
         Head::Array(n) => on_count(count_of(val, v, 6), n, Opens::Run(0, n, joints_of(n))),
         Head::Listed(b) => open_list(count_of(val, v, 7), b),
-        Head::Variants(n) => open_enum(count_of(val, v, 8), n),
+        Head::Variants(n) => open_enum(count_of(val, v, 8), n, lefts),
         Head::Payload(_) => Opens::Wrong(Refusal::NotOneValue),
     }
 }
@@ -359,11 +364,13 @@ fn check_value(
     val: &[u8],
     v: usize,
     shape: usize,
+    lefts: &Lefts,
 ) -> Checked
     requires { ⌜ Given level false (now ty) (now ends) at ⌝ }
+    requires { ⌜ now lefts ≡ left-sizes ⌝ }
     ensures { λ r. ⌜ r ≡ check (tree level (now (ty .entry)) at) (now (val .entry)) v shape ⌝ }
 {
-    match open_record(head_at(ty, at), val, v) {
+    match open_record(head_at(ty, at), val, v, lefts) {
         Opens::Wrong(x) => Checked::Bad(x),
         Opens::Run(j, n, own) => check_run(
             ty,
@@ -374,8 +381,9 @@ fn check_value(
             val,
             v + 1,
             sum(shape, own),
+            lefts,
         ),
-        Opens::Parts(n) => check_parts(ty, ends, at + 1, level - 1, n, val, v + 1, shape),
+        Opens::Parts(n) => check_parts(ty, ends, at + 1, level - 1, n, val, v + 1, shape, lefts),
         Opens::Case(i, own) => check_payload(
             ty,
             ends,
@@ -384,6 +392,7 @@ fn check_value(
             val,
             v + 1,
             sum(shape, own),
+            lefts,
         ),
     }
 }
@@ -398,15 +407,17 @@ fn check_run(
     val: &[u8],
     v: usize,
     shape: usize,
+    lefts: &Lefts,
 ) -> Checked
     requires { ⌜ GivenIf n level (now ty) (now ends) at ⌝ }
+    requires { ⌜ now lefts ≡ left-sizes ⌝ }
     ensures { λ r. ⌜ r ≡ run (check (tree level (now (ty .entry)) at) (now (val .entry))) n v shape ⌝ }
 {
     let mut e = v;
     let mut size = shape;
     let mut left = n;
     while left > 0 {
-        match check_value(ty, ends, at, level, val, e, size) {
+        match check_value(ty, ends, at, level, val, e, size, lefts) {
             Checked::Next(next, more) => {
                 e = next;
                 size = more;
@@ -430,8 +441,10 @@ fn check_parts(
     val: &[u8],
     v: usize,
     shape: usize,
+    lefts: &Lefts,
 ) -> Checked
     requires { ⌜ GivenRow level false (now ty) (now ends) n at ⌝ }
+    requires { ⌜ now lefts ≡ left-sizes ⌝ }
     ensures { λ r. ⌜ r ≡ parts (kids (tree level (now (ty .entry))) (walk level false (now (ty .entry))) n at) (now (val .entry)) v shape ⌝ }
 {
     let mut p = at;
@@ -439,7 +452,7 @@ fn check_parts(
     let mut size = sum(shape, joints_of(n));
     let mut left = n;
     while left > 0 {
-        match check_value(ty, ends, p, level, val, e, size) {
+        match check_value(ty, ends, p, level, val, e, size, lefts) {
             Checked::Next(next, more) => {
                 p = end_at(ends, p);
                 e = next;
@@ -463,8 +476,10 @@ fn check_payload(
     val: &[u8],
     v: usize,
     shape: usize,
+    lefts: &Lefts,
 ) -> Checked
     requires { ⌜ Given level true (now ty) (now ends) at ⌝ }
+    requires { ⌜ now lefts ≡ left-sizes ⌝ }
     ensures { λ r. ⌜ r ≡ parts (treev level (now (ty .entry)) at) (now (val .entry)) v shape ⌝ }
 {
     match rec_at(ty, at) {
@@ -472,13 +487,21 @@ fn check_payload(
         Rec::Wrong => Checked::Bad(Refusal::NotOneValue),
         Rec::Types(_) => Checked::Bad(Refusal::NotOneValue),
         Rec::Enum(_) => Checked::Bad(Refusal::NotOneValue),
-        Rec::Variant(n) => check_parts(ty, ends, at + 1, level - 1, n, val, v, shape),
+        Rec::Variant(n) => check_parts(ty, ends, at + 1, level - 1, n, val, v, shape, lefts),
     }
 }
 
 // Rows 15, 16, 21 and 22 of a value file as one of the type at place `at`, with `level` levels from there on: how many records it has and how many its shape, or the fault that comes first.
-pub fn check_part(ty: &[u8], ends: &[usize], at: usize, level: usize, val: &[u8]) -> Checked
+pub fn check_part(
+    ty: &[u8],
+    ends: &[usize],
+    at: usize,
+    level: usize,
+    val: &[u8],
+    lefts: &Lefts,
+) -> Checked
     requires { ⌜ Given level false (now ty) (now ends) at ⌝ }
+    requires { ⌜ now lefts ≡ left-sizes ⌝ }
     ensures { λ r. ⌜ r ≡ file-answer (tree level (now (ty .entry)) at) (now (val .entry)) ⌝ }
 {
     let n = val.len();
@@ -488,7 +511,7 @@ pub fn check_part(ty: &[u8], ends: &[usize], at: usize, level: usize, val: &[u8]
     if n % 36 != 0 {
         return Checked::Bad(Refusal::ValueLength);
     }
-    match check_value(ty, ends, at, level, val, 0, 0) {
+    match check_value(ty, ends, at, level, val, 0, 0, lefts) {
         Checked::Next(e, size) => if e == n / 36 {
             Checked::Next(e, size)
         } else {
@@ -499,9 +522,10 @@ pub fn check_part(ty: &[u8], ends: &[usize], at: usize, level: usize, val: &[u8]
 }
 
 // Of a whole value file of an accepted type.
-pub fn check_file(ty: &[u8], ends: &[usize], val: &[u8]) -> Checked
+pub fn check_file(ty: &[u8], ends: &[usize], val: &[u8], lefts: &Lefts) -> Checked
     requires { ⌜ Given 32 false (now ty) (now ends) 0 ⌝ }
+    requires { ⌜ now lefts ≡ left-sizes ⌝ }
     ensures { λ r. ⌜ r ≡ file-answer (tree 32 (now (ty .entry)) 0) (now (val .entry)) ⌝ }
 {
-    check_part(ty, ends, 0, 32, val)
+    check_part(ty, ends, 0, 32, val, lefts)
 }

@@ -50,59 +50,59 @@ use Rattle.types.proofs.head_at.Reads as head-at-reads
 use Rattle.accept.proofs.+see_block+see_list+see_record+see_row+see_sum.{statement}
 use Rattle.accept.proofs.+see_block+see_list+see_record+see_row+see_sum.Tie.{close}
 
-abbrev μ-see-block : Measures 4 see-block-kinds.ps ℕ
+abbrev μ-see-block : Measures 5 see-block-kinds.ps ℕ
 μ-see-block κs a = a .1 .1 .1 .1 .0 * 2 ^ 17 + 2
 
-abbrev μ-see-list : Measures 4 see-list-kinds.ps ℕ
+abbrev μ-see-list : Measures 5 see-list-kinds.ps ℕ
 μ-see-list κs a = a .1 .1 .1 .1 .0 * 2 ^ 17 + a .1 .1 .1 .1 .1 .0 .0 + 3
 
-abbrev μ-see-record : Measures 4 see-record-kinds.ps ℕ
+abbrev μ-see-record : Measures 5 see-record-kinds.ps ℕ
 μ-see-record κs a = a .1 .1 .1 .1 .0 * 2 ^ 17
 
-abbrev μ-see-row : Measures 4 see-row-kinds.ps ℕ
+abbrev μ-see-row : Measures 5 see-row-kinds.ps ℕ
 μ-see-row κs a = a .1 .1 .1 .1 .0 * 2 ^ 17 + 1
 
-abbrev μ-see-sum : Measures 4 see-sum-kinds.ps ℕ
+abbrev μ-see-sum : Measures 5 see-sum-kinds.ps ℕ
 μ-see-sum κs a = a .1 .1 .1 .1 .0 * 2 ^ 17 + a .1 .1 .1 .1 .1 .0 + 1
 
 abbrev Inv-loop : see-row-lts.InvT-loop
-Inv-loop ty ends widths at level n parts frame bit all₀ place₀ here₀ left₀ all place here left = Rowing parts level ty ends n at frame bit all place here left
+Inv-loop ty ends widths at level n parts frame bit lefts all₀ place₀ here₀ left₀ all place here left = Rowing parts level ty ends n at frame bit all place here left
 
 abbrev μ-loop : see-row-lts.MeasureT-loop
-μ-loop ty ends widths at level n parts frame bit all₀ place₀ here₀ left₀ all place here left = left
+μ-loop ty ends widths at level n parts frame bit lefts all₀ place₀ here₀ left₀ all place here left = left
 
 ruleset steps = (level-some, stands-inside, width-there, next-fits, record-nothing, record-bit, record-integer, record-product, record-sum, record-list, record-payload, record-end, row-few, sum-few, block-few, list-few, record-few, one-few, rowing-start, rowing-stands, rowing-inside, rowing-end, rowing-next, row-plain, row-end-there, row-width-there, row-next, one-given, one-there, one-last, one-fits, one-run, one-clear, one-stray, block-inside, block-some, block-none, block-stray, block-mul, block-run, listed-two, needs)
 
 module _ (t : ℕ) where
-  abbrev see-block-at : In 4 see-block-kinds.ps
-  see-block-at = and 4 see-block-kinds.ps (is 4 see-block-kinds.ps μ-see-block t) see-block.Pre
+  abbrev see-block-at : In 5 see-block-kinds.ps
+  see-block-at = and 5 see-block-kinds.ps (is 5 see-block-kinds.ps μ-see-block t) see-block.Pre
 
-  abbrev see-block-below : In 4 see-block-kinds.ps
-  see-block-below = and 4 see-block-kinds.ps (falls 4 see-block-kinds.ps _<_ μ-see-block t) see-block.Pre
+  abbrev see-block-below : In 5 see-block-kinds.ps
+  see-block-below = and 5 see-block-kinds.ps (falls 5 see-block-kinds.ps _<_ μ-see-block t) see-block.Pre
 
-  abbrev see-list-at : In 4 see-list-kinds.ps
-  see-list-at = and 4 see-list-kinds.ps (is 4 see-list-kinds.ps μ-see-list t) see-list.Pre
+  abbrev see-list-at : In 5 see-list-kinds.ps
+  see-list-at = and 5 see-list-kinds.ps (is 5 see-list-kinds.ps μ-see-list t) see-list.Pre
 
-  abbrev see-list-below : In 4 see-list-kinds.ps
-  see-list-below = and 4 see-list-kinds.ps (falls 4 see-list-kinds.ps _<_ μ-see-list t) see-list.Pre
+  abbrev see-list-below : In 5 see-list-kinds.ps
+  see-list-below = and 5 see-list-kinds.ps (falls 5 see-list-kinds.ps _<_ μ-see-list t) see-list.Pre
 
-  abbrev see-record-at : In 4 see-record-kinds.ps
-  see-record-at = and 4 see-record-kinds.ps (is 4 see-record-kinds.ps μ-see-record t) see-record.Pre
+  abbrev see-record-at : In 5 see-record-kinds.ps
+  see-record-at = and 5 see-record-kinds.ps (is 5 see-record-kinds.ps μ-see-record t) see-record.Pre
 
-  abbrev see-record-below : In 4 see-record-kinds.ps
-  see-record-below = and 4 see-record-kinds.ps (falls 4 see-record-kinds.ps _<_ μ-see-record t) see-record.Pre
+  abbrev see-record-below : In 5 see-record-kinds.ps
+  see-record-below = and 5 see-record-kinds.ps (falls 5 see-record-kinds.ps _<_ μ-see-record t) see-record.Pre
 
-  abbrev see-row-at : In 4 see-row-kinds.ps
-  see-row-at = and 4 see-row-kinds.ps (is 4 see-row-kinds.ps μ-see-row t) see-row.Pre
+  abbrev see-row-at : In 5 see-row-kinds.ps
+  see-row-at = and 5 see-row-kinds.ps (is 5 see-row-kinds.ps μ-see-row t) see-row.Pre
 
-  abbrev see-row-below : In 4 see-row-kinds.ps
-  see-row-below = and 4 see-row-kinds.ps (falls 4 see-row-kinds.ps _<_ μ-see-row t) see-row.Pre
+  abbrev see-row-below : In 5 see-row-kinds.ps
+  see-row-below = and 5 see-row-kinds.ps (falls 5 see-row-kinds.ps _<_ μ-see-row t) see-row.Pre
 
-  abbrev see-sum-at : In 4 see-sum-kinds.ps
-  see-sum-at = and 4 see-sum-kinds.ps (is 4 see-sum-kinds.ps μ-see-sum t) see-sum.Pre
+  abbrev see-sum-at : In 5 see-sum-kinds.ps
+  see-sum-at = and 5 see-sum-kinds.ps (is 5 see-sum-kinds.ps μ-see-sum t) see-sum.Pre
 
-  abbrev see-sum-below : In 4 see-sum-kinds.ps
-  see-sum-below = and 4 see-sum-kinds.ps (falls 4 see-sum-kinds.ps _<_ μ-see-sum t) see-sum.Pre
+  abbrev see-sum-below : In 5 see-sum-kinds.ps
+  see-sum-below = and 5 see-sum-kinds.ps (falls 5 see-sum-kinds.ps _<_ μ-see-sum t) see-sum.Pre
 
   abbrev see-block-calls : see-block-lts.Claims
   see-block-calls = (bit-at-reads.Asked, bit-at-reads.Learnt, see-row-below, see-row.Post, zeros-at-reads.Asked, zeros-at-reads.Learnt)
@@ -124,9 +124,9 @@ module _ (t : ℕ) where
       let m = c .before .before .before .before .before .before .pre .0 in
       let p0 = c .before .before .before .before .before .before .pre .1 .0 in
       let p1 = c .before .before .before .before .before .before .pre .1 .1 .0 in
-      let p2 = c .before .before .before .before .before .before .pre .1 .1 .1 in
+      let p2 = c .before .before .before .before .before .before .pre .1 .1 .1 .0 in
       let a = c .before .before .before .before .before .before .args in
-      (omega arith, (given-copies _ p0, (p1, block-inside (a .level) (a .ty .now) (a .n) (a .at) (a .frame .now) (a .bit) p2)))
+      (omega arith, (given-copies _ p0, (p1, (block-inside (a .level) (a .ty .now) (a .n) (a .at) (a .frame .now) (a .bit) p2, c .before .before .before .before .before .before .pre .1 .1 .1 .1))))
 
   see-list-see-block-requires : see-list-lts.Need-see-block-requires see-list-calls see-list-at see-list.Post
   see-list-see-block-requires c κs =
@@ -134,10 +134,10 @@ module _ (t : ℕ) where
       let p0 = c .before .before .before .before .before .before .before .pre .1 .0 in
       let p1 = c .before .before .before .before .before .before .before .pre .1 .1 .0 in
       let p2 = c .before .before .before .before .before .before .before .pre .1 .1 .1 .0 in
-      let p3 = c .before .before .before .before .before .before .before .pre .1 .1 .1 .1 in
+      let p3 = c .before .before .before .before .before .before .before .pre .1 .1 .1 .1 .0 in
       let a = c .before .before .before .before .before .before .before .args in
       let h = two _ _ _ p0 _ (c .before .before .checked-div2 .ensures) (c .enum-told .given .1) in
-      (omega arith, (p1, (p2, two-block (a .frame .now) (a .bit) h p3)))
+      (omega arith, (p1, (p2, (two-block (a .frame .now) (a .bit) h p3, c .before .before .before .before .before .before .before .pre .1 .1 .1 .1 .1))))
 
   see-list-add-next : see-list-lts.Need-add-next see-list-calls see-list-at see-list.Post
   see-list-add-next c =
@@ -145,7 +145,7 @@ module _ (t : ℕ) where
       let p0 = c .before .before .before .before .before .before .before .before .before .pre .1 .0 in
       let p1 = c .before .before .before .before .before .before .before .before .before .pre .1 .1 .0 in
       let p2 = c .before .before .before .before .before .before .before .before .before .pre .1 .1 .1 .0 in
-      let p3 = c .before .before .before .before .before .before .before .before .before .pre .1 .1 .1 .1 in
+      let p3 = c .before .before .before .before .before .before .before .before .before .pre .1 .1 .1 .1 .0 in
       let a = c .before .before .before .before .before .before .before .before .before .args in
       let e = c .get .ensures in
       let h = halved _ _ _ p0 _ (c .before .before .before .before .checked-div2 .ensures) _ (c .before .before .half .given .1) in
@@ -157,7 +157,7 @@ module _ (t : ℕ) where
       let p0 = c .before .before .before .before .before .before .before .before .before .before .pre .1 .0 in
       let p1 = c .before .before .before .before .before .before .before .before .before .before .pre .1 .1 .0 in
       let p2 = c .before .before .before .before .before .before .before .before .before .before .pre .1 .1 .1 .0 in
-      let p3 = c .before .before .before .before .before .before .before .before .before .before .pre .1 .1 .1 .1 in
+      let p3 = c .before .before .before .before .before .before .before .before .before .before .pre .1 .1 .1 .1 .0 in
       let a = c .before .before .before .before .before .before .before .before .before .before .args in
       let e = c .before .get .ensures in
       let h = halved _ _ _ p0 _ (c .before .before .before .before .before .checked-div2 .ensures) _ (c .before .before .before .half .given .1) in
@@ -169,7 +169,7 @@ module _ (t : ℕ) where
       let p0 = c .before .before .before .before .before .before .before .before .before .before .pre .1 .0 in
       let p1 = c .before .before .before .before .before .before .before .before .before .before .pre .1 .1 .0 in
       let p2 = c .before .before .before .before .before .before .before .before .before .before .pre .1 .1 .1 .0 in
-      let p3 = c .before .before .before .before .before .before .before .before .before .before .pre .1 .1 .1 .1 in
+      let p3 = c .before .before .before .before .before .before .before .before .before .before .pre .1 .1 .1 .1 .0 in
       let a = c .before .before .before .before .before .before .before .before .before .before .args in
       let e = c .before .get .ensures in
       let h = halved _ _ _ p0 _ (c .before .before .before .before .before .checked-div2 .ensures) _ (c .before .before .before .half .given .1) in
@@ -181,11 +181,11 @@ module _ (t : ℕ) where
       let p0 = c .before .before .before .before .before .before .before .before .before .before .pre .1 .0 in
       let p1 = c .before .before .before .before .before .before .before .before .before .before .pre .1 .1 .0 in
       let p2 = c .before .before .before .before .before .before .before .before .before .before .pre .1 .1 .1 .0 in
-      let p3 = c .before .before .before .before .before .before .before .before .before .before .pre .1 .1 .1 .1 in
+      let p3 = c .before .before .before .before .before .before .before .before .before .before .pre .1 .1 .1 .1 .0 in
       let a = c .before .before .before .before .before .before .before .before .before .before .args in
       let e = c .before .get .ensures in
       let h = halved _ _ _ p0 _ (c .before .before .before .before .before .checked-div2 .ensures) _ (c .before .before .before .half .given .1) in
-      (omega arith, (p1, (p2, half-block p1 p2 (a .frame .now) (a .bit) _ h e p3)))
+      (omega arith, (p1, (p2, (half-block p1 p2 (a .frame .now) (a .bit) _ h e p3, c .before .before .before .before .before .before .before .before .before .before .pre .1 .1 .1 .1 .1))))
 
   see-list-see-list-requires : see-list-lts.Need-see-list-requires see-list-calls see-list-at see-list.Post
   see-list-see-list-requires c κs =
@@ -193,12 +193,12 @@ module _ (t : ℕ) where
       let p0 = c .before .before .before .before .before .before .before .before .before .before .before .pre .1 .0 in
       let p1 = c .before .before .before .before .before .before .before .before .before .before .before .pre .1 .1 .0 in
       let p2 = c .before .before .before .before .before .before .before .before .before .before .before .pre .1 .1 .1 .0 in
-      let p3 = c .before .before .before .before .before .before .before .before .before .before .before .pre .1 .1 .1 .1 in
+      let p3 = c .before .before .before .before .before .before .before .before .before .before .before .pre .1 .1 .1 .1 .0 in
       let a = c .before .before .before .before .before .before .before .before .before .before .before .args in
       let e = c .before .before .get .ensures in
       let h = halved _ _ _ p0 _ (c .before .before .before .before .before .before .checked-div2 .ensures) _ (c .before .before .before .before .half .given .1) in
       let l = h .less in
-      (omega arith, (h .fair, (p1, (p2, half-list p1 p2 (a .frame .now) (a .bit) _ h e p3))))
+      (omega arith, (h .fair, (p1, (p2, (half-list p1 p2 (a .frame .now) (a .bit) _ h e p3, c .before .before .before .before .before .before .before .before .before .before .before .pre .1 .1 .1 .1 .1)))))
 
   see-list-returns-2 : see-list-lts.Need-returns-2 see-list-calls see-list-at see-list.Post
   see-list-returns-2 c =
@@ -206,7 +206,7 @@ module _ (t : ℕ) where
       let p0 = c .before .before .before .before .before .before .before .before .before .before .before .before .before .pre .1 .0 in
       let p1 = c .before .before .before .before .before .before .before .before .before .before .before .before .before .pre .1 .1 .0 in
       let p2 = c .before .before .before .before .before .before .before .before .before .before .before .before .before .pre .1 .1 .1 .0 in
-      let p3 = c .before .before .before .before .before .before .before .before .before .before .before .before .before .pre .1 .1 .1 .1 in
+      let p3 = c .before .before .before .before .before .before .before .before .before .before .before .before .before .pre .1 .1 .1 .1 .0 in
       let a = c .before .before .before .before .before .before .before .before .before .before .before .before .before .args in
       listed-more _ _ _ p0 _ (c .before .before .before .before .before .before .before .before .checked-div2 .ensures) _ _ _ _ _ _ _ _ _ _ _ (c .before .before .before .before .before .before .half .given .1) (c .before .before .before .before .get .ensures) p1 p2 refl refl (c .before .before .see-block2 .ensures) (c .before .see-list .ensures) (c .both .ensures)
 
@@ -215,58 +215,58 @@ module _ (t : ℕ) where
       let m = c .before .before .before .before .before .before .before .before .before .pre .0 in
       let p0 = c .before .before .before .before .before .before .before .before .before .pre .1 .0 in
       let p1 = c .before .before .before .before .before .before .before .before .before .pre .1 .1 .0 in
-      let p2 = c .before .before .before .before .before .before .before .before .before .pre .1 .1 .1 in
+      let p2 = c .before .before .before .before .before .before .before .before .before .pre .1 .1 .1 .0 in
       let a = c .before .before .before .before .before .before .before .before .before .args in
       let i = as-product p0 (c .before .before .before .before .head-at .ensures .0) (c .before .before .before .before .head-at .ensures .1) (c .before .before .before .form-of .ensures) (c .before .parts .given .1) in
       let l = level-some p0 in
-      (omega arith, (i .given, (p1, inside-as (a .frame .now) (a .bit) _ _ (i .wide) p2)))
+      (omega arith, (i .given, (p1, (inside-as (a .frame .now) (a .bit) _ _ (i .wide) p2, c .before .before .before .before .before .before .before .before .before .pre .1 .1 .1 .1))))
 
   see-record-see-sum-requires : see-record-lts.Need-see-sum-requires see-record-calls see-record-at see-record.Post
   see-record-see-sum-requires c κs =
       let m = c .before .before .before .before .before .before .before .before .before .before .pre .0 in
       let p0 = c .before .before .before .before .before .before .before .before .before .before .pre .1 .0 in
       let p1 = c .before .before .before .before .before .before .before .before .before .before .pre .1 .1 .0 in
-      let p2 = c .before .before .before .before .before .before .before .before .before .before .pre .1 .1 .1 in
+      let p2 = c .before .before .before .before .before .before .before .before .before .before .pre .1 .1 .1 .0 in
       let a = c .before .before .before .before .before .before .before .before .before .before .args in
       let i = as-sum p0 (c .before .before .before .before .before .head-at .ensures .0) (c .before .before .before .before .before .head-at .ensures .1) (c .before .before .before .before .form-of .ensures) (c .before .before .n .given .1) in
       let l = level-some p0 in
       let o = i .some-choice in
       let f = i .few in
-      (omega arith, ((o, f), (i .given, (p1, sum-padded p0 p1 (a .frame .now) (a .bit) p2 i))))
+      (omega arith, ((o, f), (i .given, (p1, (sum-padded p0 p1 (a .frame .now) (a .bit) p2 i, c .before .before .before .before .before .before .before .before .before .before .pre .1 .1 .1 .1)))))
 
   see-record-see-list-requires : see-record-lts.Need-see-list-requires see-record-calls see-record-at see-record.Post
   see-record-see-list-requires c κs =
       let m = c .before .before .before .before .before .before .before .before .before .pre .0 in
       let p0 = c .before .before .before .before .before .before .before .before .before .pre .1 .0 in
       let p1 = c .before .before .before .before .before .before .before .before .before .pre .1 .1 .0 in
-      let p2 = c .before .before .before .before .before .before .before .before .before .pre .1 .1 .1 in
+      let p2 = c .before .before .before .before .before .before .before .before .before .pre .1 .1 .1 .0 in
       let a = c .before .before .before .before .before .before .before .before .before .args in
       let i = as-list p0 (c .before .before .before .before .head-at .ensures .0) (c .before .before .before .before .head-at .ensures .1) (c .before .before .before .form-of .ensures) (c .before .bound .given .1) in
       let l = level-some p0 in
       let f = bound-small (i .fair) in
-      (omega arith, (i .fair, (i .given, (p1, inside-as (a .frame .now) (a .bit) _ _ (ap width (i .lowered)) p2))))
+      (omega arith, (i .fair, (i .given, (p1, (inside-as (a .frame .now) (a .bit) _ _ (ap width (i .lowered)) p2, c .before .before .before .before .before .before .before .before .before .pre .1 .1 .1 .1)))))
 
   see-record-see-row-requires-2 : see-record-lts.Need-see-row-requires-2 see-record-calls see-record-at see-record.Post
   see-record-see-row-requires-2 c κs =
       let m = c .before .before .before .before .before .before .before .before .before .pre .0 in
       let p0 = c .before .before .before .before .before .before .before .before .before .pre .1 .0 in
       let p1 = c .before .before .before .before .before .before .before .before .before .pre .1 .1 .0 in
-      let p2 = c .before .before .before .before .before .before .before .before .before .pre .1 .1 .1 in
+      let p2 = c .before .before .before .before .before .before .before .before .before .pre .1 .1 .1 .0 in
       let a = c .before .before .before .before .before .before .before .before .before .args in
       let i = as-payload p0 (c .before .before .before .before .head-at .ensures .0) (c .before .before .before .before .head-at .ensures .1) (c .before .before .before .form-of .ensures) (c .before .n2 .given .1) in
       let l = level-some p0 in
-      (omega arith, (i .given, (p1, inside-as (a .frame .now) (a .bit) _ _ (i .wide) p2)))
+      (omega arith, (i .given, (p1, (inside-as (a .frame .now) (a .bit) _ _ (i .wide) p2, c .before .before .before .before .before .before .before .before .before .pre .1 .1 .1 .1))))
 
   see-row-see-record-requires : see-row-lts.Need-see-record-requires see-row-calls see-row-at see-row.Post Inv-loop μ-loop
   see-row-see-record-requires c κs =
       let m = c .before .before .before .before .before .before .before .before .pre .0 in
       let p0 = c .before .before .before .before .before .before .before .before .pre .1 .0 in
       let p1 = c .before .before .before .before .before .before .before .before .pre .1 .1 .0 in
-      let p2 = c .before .before .before .before .before .before .before .before .pre .1 .1 .1 in
+      let p2 = c .before .before .before .before .before .before .before .before .pre .1 .1 .1 .0 in
       let a = c .before .before .before .before .before .before .before .before .args in
       let r = c .before .loop .inv in
       let h = c .loop-test .taken in
-      (omega arith, (rowing-stands r h, (p1, rowing-inside r h)))
+      (omega arith, (rowing-stands r h, (p1, (rowing-inside r h, c .before .before .before .before .before .before .before .before .pre .1 .1 .1 .1))))
 
   see-row-after-part-requires : see-row-lts.Need-after-part-requires see-row-calls see-row-at see-row.Post Inv-loop μ-loop
   see-row-after-part-requires c κs = row-end-there (c .before .before .before .before .loop .inv) (c .before .before .before .loop-test .taken)
@@ -277,10 +277,10 @@ module _ (t : ℕ) where
       let p0 = c .before .before .before .before .before .before .before .before .pre .1 .0 in
       let p1 = c .before .before .before .before .before .before .before .before .pre .1 .1 .0 in
       let p2 = c .before .before .before .before .before .before .before .before .pre .1 .1 .1 .0 in
-      let p3 = c .before .before .before .before .before .before .before .before .pre .1 .1 .1 .1 in
+      let p3 = c .before .before .before .before .before .before .before .before .pre .1 .1 .1 .1 .0 in
       let a = c .before .before .before .before .before .before .before .before .args in
       let e = c .before .before .before .if1 .taken in
-      (omega arith, (one-given p1 e, (p2, one-inside p1 e p3)))
+      (omega arith, (one-given p1 e, (p2, (one-inside p1 e p3, c .before .before .before .before .before .before .before .before .pre .1 .1 .1 .1 .1))))
 
   see-sum-bit-at-requires : see-sum-lts.Need-bit-at-requires see-sum-calls see-sum-at see-sum.Post
   see-sum-bit-at-requires c κs =
@@ -288,7 +288,7 @@ module _ (t : ℕ) where
       let p0 = c .before .before .before .before .before .before .pre .1 .0 in
       let p1 = c .before .before .before .before .before .before .pre .1 .1 .0 in
       let p2 = c .before .before .before .before .before .before .pre .1 .1 .1 .0 in
-      let p3 = c .before .before .before .before .before .before .pre .1 .1 .1 .1 in
+      let p3 = c .before .before .before .before .before .before .pre .1 .1 .1 .1 .0 in
       let a = c .before .before .before .before .before .before .args in
       let s = shares-some (c .btree-split-index .ensures) (p0 .0) (c .before .if1 .left) in
       let o = s .some in
@@ -302,7 +302,7 @@ module _ (t : ℕ) where
       let p0 = c .before .before .before .before .before .before .before .before .pre .1 .0 in
       let p1 = c .before .before .before .before .before .before .before .before .pre .1 .1 .0 in
       let p2 = c .before .before .before .before .before .before .before .before .pre .1 .1 .1 .0 in
-      let p3 = c .before .before .before .before .before .before .before .before .pre .1 .1 .1 .1 in
+      let p3 = c .before .before .before .before .before .before .before .before .pre .1 .1 .1 .1 .0 in
       let a = c .before .before .before .before .before .before .before .before .args in
       let s = shares-some (c .before .before .btree-split-index .ensures) (p0 .0) (c .before .before .before .if1 .left) in
       let o = s .some in
@@ -316,7 +316,7 @@ module _ (t : ℕ) where
       let p0 = c .before .before .before .before .before .before .before .before .pre .1 .0 in
       let p1 = c .before .before .before .before .before .before .before .before .pre .1 .1 .0 in
       let p2 = c .before .before .before .before .before .before .before .before .pre .1 .1 .1 .0 in
-      let p3 = c .before .before .before .before .before .before .before .before .pre .1 .1 .1 .1 in
+      let p3 = c .before .before .before .before .before .before .before .before .pre .1 .1 .1 .1 .0 in
       let a = c .before .before .before .before .before .before .before .before .args in
       let s = shares-some (c .before .before .btree-split-index .ensures) (p0 .0) (c .before .before .before .if1 .left) in
       let o = s .some in
@@ -330,7 +330,7 @@ module _ (t : ℕ) where
       let p0 = c .before .before .before .before .before .before .before .before .before .pre .1 .0 in
       let p1 = c .before .before .before .before .before .before .before .before .before .pre .1 .1 .0 in
       let p2 = c .before .before .before .before .before .before .before .before .before .pre .1 .1 .1 .0 in
-      let p3 = c .before .before .before .before .before .before .before .before .before .pre .1 .1 .1 .1 in
+      let p3 = c .before .before .before .before .before .before .before .before .before .pre .1 .1 .1 .1 .0 in
       let a = c .before .before .before .before .before .before .before .before .before .args in
       let s = shares-some (c .before .before .before .btree-split-index .ensures) (p0 .0) (c .before .before .before .before .if1 .left) in
       let o = s .some in
@@ -345,13 +345,13 @@ module _ (t : ℕ) where
       let p0 = c .before .before .before .before .before .before .before .before .before .pre .1 .0 in
       let p1 = c .before .before .before .before .before .before .before .before .before .pre .1 .1 .0 in
       let p2 = c .before .before .before .before .before .before .before .before .before .pre .1 .1 .1 .0 in
-      let p3 = c .before .before .before .before .before .before .before .before .before .pre .1 .1 .1 .1 in
+      let p3 = c .before .before .before .before .before .before .before .before .before .pre .1 .1 .1 .1 .0 in
       let a = c .before .before .before .before .before .before .before .before .before .args in
       let s = shares-some (c .before .before .before .btree-split-index .ensures) (p0 .0) (c .before .before .before .before .if1 .left) in
       let o = s .some in
       let l = s .less in
       let u = p0 .1 in
-      (omega arith, ((omega arith, omega arith), (others-given s p1 (c .hop .ensures), (p2, right-padded s p1 p3 (c .hop .ensures)))))
+      (omega arith, ((omega arith, omega arith), (others-given s p1 (c .hop .ensures), (p2, (right-padded s p1 p3 (c .hop .ensures), c .before .before .before .before .before .before .before .before .before .pre .1 .1 .1 .1 .1)))))
 
   see-sum-returns-3 : see-sum-lts.Need-returns-3 see-sum-calls see-sum-at see-sum.Post
   see-sum-returns-3 c =
@@ -359,7 +359,7 @@ module _ (t : ℕ) where
       let p0 = c .before .before .before .before .before .before .before .before .before .before .pre .1 .0 in
       let p1 = c .before .before .before .before .before .before .before .before .before .before .pre .1 .1 .0 in
       let p2 = c .before .before .before .before .before .before .before .before .before .before .pre .1 .1 .1 .0 in
-      let p3 = c .before .before .before .before .before .before .before .before .before .before .pre .1 .1 .1 .1 in
+      let p3 = c .before .before .before .before .before .before .before .before .before .before .pre .1 .1 .1 .1 .0 in
       let a = c .before .before .before .before .before .before .before .before .before .before .args in
       let s = shares-some (c .before .before .before .before .btree-split-index .ensures) (p0 .0) (c .before .before .before .before .before .if1 .left) in
       let o = s .some in
@@ -373,7 +373,7 @@ module _ (t : ℕ) where
       let p0 = c .before .before .before .before .before .before .before .before .pre .1 .0 in
       let p1 = c .before .before .before .before .before .before .before .before .pre .1 .1 .0 in
       let p2 = c .before .before .before .before .before .before .before .before .pre .1 .1 .1 .0 in
-      let p3 = c .before .before .before .before .before .before .before .before .pre .1 .1 .1 .1 in
+      let p3 = c .before .before .before .before .before .before .before .before .pre .1 .1 .1 .1 .0 in
       let a = c .before .before .before .before .before .before .before .before .args in
       let s = shares-some (c .before .before .btree-split-index .ensures) (p0 .0) (c .before .before .before .if1 .left) in
       let o = s .some in
@@ -388,13 +388,13 @@ module _ (t : ℕ) where
       let p0 = c .before .before .before .before .before .before .before .before .pre .1 .0 in
       let p1 = c .before .before .before .before .before .before .before .before .pre .1 .1 .0 in
       let p2 = c .before .before .before .before .before .before .before .before .pre .1 .1 .1 .0 in
-      let p3 = c .before .before .before .before .before .before .before .before .pre .1 .1 .1 .1 in
+      let p3 = c .before .before .before .before .before .before .before .before .pre .1 .1 .1 .1 .0 in
       let a = c .before .before .before .before .before .before .before .before .args in
       let s = shares-some (c .before .before .btree-split-index .ensures) (p0 .0) (c .before .before .before .if1 .left) in
       let o = s .some in
       let l = s .less in
       let u = p0 .1 in
-      (omega arith, ((omega arith, omega arith), (left-given s p1, (p2, left-padded s p1 p3))))
+      (omega arith, ((omega arith, omega arith), (left-given s p1, (p2, (left-padded s p1 p3, c .before .before .before .before .before .before .before .before .pre .1 .1 .1 .1 .1)))))
 
   see-sum-returns-4 : see-sum-lts.Need-returns-4 see-sum-calls see-sum-at see-sum.Post
   see-sum-returns-4 c =
@@ -402,7 +402,7 @@ module _ (t : ℕ) where
       let p0 = c .before .before .before .before .before .before .before .before .before .pre .1 .0 in
       let p1 = c .before .before .before .before .before .before .before .before .before .pre .1 .1 .0 in
       let p2 = c .before .before .before .before .before .before .before .before .before .pre .1 .1 .1 .0 in
-      let p3 = c .before .before .before .before .before .before .before .before .before .pre .1 .1 .1 .1 in
+      let p3 = c .before .before .before .before .before .before .before .before .before .pre .1 .1 .1 .1 .0 in
       let a = c .before .before .before .before .before .before .before .before .before .args in
       let s = shares-some (c .before .before .before .btree-split-index .ensures) (p0 .0) (c .before .before .before .before .if1 .left) in
       let o = s .some in

@@ -23,7 +23,7 @@ start c = c .before .before .before .before .before .before .before .before .bef
 whole : (c : lts.After-enum-told calls reads.Pre reads.Post) → Opened (start c .args .ty .now) (start c .args .ends .now) (start c .args .frame .now)
 whole c =
     let pre = start c .pre in
-    opened (pre .1 .1) _ _ (c .before .before .accept .ensures) (pre .0) (pre .1 .0) (λ i. c .before .before .before .before .before .before .before .before .before .shared-slice-known .given i .fits) (λ i. c .before .before .before .before .before .before .slice-known .given i .fits) (c .enum-told .given .1)
+    opened (pre .1 .1 .0) _ _ (c .before .before .accept .ensures) (pre .0) (pre .1 .0) (λ i. c .before .before .before .before .before .before .before .before .before .shared-slice-known .given i .fits) (λ i. c .before .before .before .before .before .before .slice-known .given i .fits) (c .enum-told .given .1)
 
 -- where the path leads to a part
 abbrev accepted : lts.After-known-told3 calls reads.Pre reads.Post → lts.After-enum-told calls reads.Pre reads.Post
@@ -33,18 +33,19 @@ part : (c : lts.After-known-told3 calls reads.Pre reads.Post) → let a = start 
 part c = arrived (start (accepted c) .pre .1 .0) (whole (accepted c)) _ (c .before .before .before .find-part .ensures) (c .before .at .given .1)
 
 held : tie.Need-find-part-requires
-held c κs = (opened-holds (whole (c .before)), start (c .before) .pre .1 .0)
+held c κs = let pre = start (c .before) .pre in (opened-holds (whole (c .before)), (pre .1 .0, pre .1 .1 .1))
 
 given : tie.Need-check-part-requires
-given c κs = part c .holding .given
+given c κs = (part c .holding .given, start (accepted c) .pre .1 .1 .1)
 
 fitted : tie.Need-write-record-requires
 fitted c κs =
     let d = c .before .before .before .before in
-    (holding-stands (part d .holding), (start (accepted d) .pre .1 .0, edit-fitted (part d) _ (c .before .before .before .check-part .ensures) (c .before .enum-told2 .given .1)))
+    let pre = start (accepted d) .pre in
+    (holding-stands (part d .holding), (pre .1 .0, (edit-fitted (part d) _ (c .before .before .before .check-part .ensures) (c .before .enum-told2 .given .1), pre .1 .1 .1)))
 
 bad-frame : tie.Need-returns
-bad-frame c = edit-bad-frame (c .before .before .before .before .before .before .before .before .before .before .before .pre .1 .1) _ _ (c .before .before .before .accept .ensures) _ _ (c .before .x .given .1)
+bad-frame c = edit-bad-frame (c .before .before .before .before .before .before .before .before .before .before .before .pre .1 .1 .0) _ _ (c .before .before .before .accept .ensures) _ _ (c .before .x .given .1)
 
 bad-path : tie.Need-returns-2
 bad-path c = let d = c .before .before .before .before .before in edit-bad-path (start d .pre .1 .0) (whole d) _ _ (c .before .before .before .find-part .ensures) (c .before .x2 .given .1)

@@ -24,7 +24,7 @@ start c = c .before .before .before .before .before .before .before .before .bef
 whole : (c : lts.After-enum-told calls reads.Pre reads.Post) → Opened (start c .args .ty .now) (start c .args .ends .now) (start c .args .frame .now)
 whole c =
     let pre = start c .pre in
-    opened (pre .1 .1) _ _ (c .before .before .accept .ensures) (pre .0) (pre .1 .0) (λ i. c .before .before .before .before .before .before .before .before .shared-slice-known .given i .fits) (λ i. c .before .before .before .before .before .shared-slice-known4 .given i .fits) (c .enum-told .given .1)
+    opened (pre .1 .1 .0) _ _ (c .before .before .accept .ensures) (pre .0) (pre .1 .0) (λ i. c .before .before .before .before .before .before .before .before .shared-slice-known .given i .fits) (λ i. c .before .before .before .before .before .shared-slice-known4 .given i .fits) (c .enum-told .given .1)
 
 -- where the path leads to a part
 abbrev accepted : lts.After-known-told3 calls reads.Pre reads.Post → lts.After-enum-told calls reads.Pre reads.Post
@@ -34,10 +34,10 @@ part : (c : lts.After-known-told3 calls reads.Pre reads.Post) → let a = start 
 part c = arrived (start (accepted c) .pre .1 .0) (whole (accepted c)) _ (c .before .before .before .find-part .ensures) (c .before .at .given .1)
 
 held : tie.Need-find-part-requires
-held c κs = (opened-holds (whole c), start c .pre .1 .0)
+held c κs = let pre = start c .pre in (opened-holds (whole c), (pre .1 .0, pre .1 .1 .1))
 
 counted : tie.Need-part-records-requires
-counted c κs = let h = part c .holding in (holding-stands h, (start (accepted c) .pre .1 .0, (holding-inside h, part-counted (part c))))
+counted c κs = let h = part c .holding in let pre = start (accepted c) .pre in (holding-stands h, (pre .1 .0, (holding-inside h, (part-counted (part c), pre .1 .1 .1))))
 
 fits : tie.Need-mul-len
 fits c = part-fits (part (c .before)) (c .part-records .ensures)
@@ -49,10 +49,11 @@ room : tie.Need-write-record-requires
 room c κs =
     let d = c .before .before .before in
     let enough = c .before .if1 .left in
-    (holding-stands (part d .holding), (start (accepted d) .pre .1 .0, (holding-inside (part d .holding), read-ready (part d) (c .before .before .part-records .ensures) _ (omega arith))))
+    let pre = start (accepted d) .pre in
+    (holding-stands (part d .holding), (pre .1 .0, (holding-inside (part d .holding), (read-ready (part d) (c .before .before .part-records .ensures) _ (omega arith), pre .1 .1 .1))))
 
 bad-frame : tie.Need-returns-2
-bad-frame c = read-bad-frame (c .before .before .before .before .before .before .before .before .before .before .pre .1 .1) _ _ (c .before .before .before .accept .ensures) _ (c .before .x .given .1)
+bad-frame c = read-bad-frame (c .before .before .before .before .before .before .before .before .before .before .pre .1 .1 .0) _ _ (c .before .before .before .accept .ensures) _ (c .before .x .given .1)
 
 bad-path : tie.Need-returns-3
 bad-path c = let d = c .before .before .before .before in read-bad-path (start d .pre .1 .0) (whole d) _ (c .before .before .before .find-part .ensures) (c .before .x2 .given .1)

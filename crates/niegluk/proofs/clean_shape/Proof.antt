@@ -19,4 +19,4 @@ form = replies (file ∷ buffer ∷ []) false (λ s x y r. CleanShape s (x .0) (
 
 pub clean-shape-spec : {M : Type 1} → statement M
 unfolding code.routine tablesOf
-clean-shape-spec 𝓤 H 𝓜 𝓖 𝓡 = enters 𝓤 H 𝓜 𝓖 𝓡 form code.env name op.name op.routine code.calls-entries·read-type code.calls-operations·clean-shape (met 𝓤 H 𝓜 𝓖 𝓡) (code.unfolded 𝓤 H 𝓜 𝓡) (λ s x. tt)
+clean-shape-spec 𝓤 H 𝓜 𝓖 𝓡 = enters 𝓤 H 𝓜 𝓖 𝓡 form code.env name op.name op.routine code.calls-array·left-sizes code.calls-entries·read-type code.calls-operations·clean-shape (met 𝓤 H 𝓜 𝓖 𝓡) (code.unfolded 𝓤 H 𝓜 𝓡) (λ s x. tt)

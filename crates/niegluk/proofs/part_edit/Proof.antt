@@ -23,4 +23,4 @@ form = plainly (buffer ∷ file ∷ file ∷ []) true (enum-outcome S.the-type S
 
 pub part-edit-spec : {M : Type 1} → statement M
 unfolding code.routine tablesOf
-part-edit-spec 𝓤 H 𝓜 𝓖 𝓡 = enters 𝓤 H 𝓜 𝓖 𝓡 form code.env name op.name op.routine code.calls-entries·read-type code.calls-operations·part-edit (met 𝓤 H 𝓜 𝓖 𝓡) (code.unfolded 𝓤 H 𝓜 𝓡) (λ s x. tt)
+part-edit-spec 𝓤 H 𝓜 𝓖 𝓡 = enters 𝓤 H 𝓜 𝓖 𝓡 form code.env name op.name op.routine code.calls-array·left-sizes code.calls-entries·read-type code.calls-operations·part-edit (met 𝓤 H 𝓜 𝓖 𝓡) (code.unfolded 𝓤 H 𝓜 𝓡) (λ s x. tt)

@@ -19,4 +19,4 @@ form = replies (file ∷ buffer ∷ []) true (λ s x y r. WriteFrame s (x .0) (x
 
 pub write-frame-spec : {M : Type 1} → statement M
 unfolding code.routine tablesOf
-write-frame-spec 𝓤 H 𝓜 𝓖 𝓡 = enters 𝓤 H 𝓜 𝓖 𝓡 form code.env name op.name op.routine code.calls-entries·read-type code.calls-operations·write-frame (met 𝓤 H 𝓜 𝓖 𝓡) (code.unfolded 𝓤 H 𝓜 𝓡) (λ s x. tt)
+write-frame-spec 𝓤 H 𝓜 𝓖 𝓡 = enters 𝓤 H 𝓜 𝓖 𝓡 form code.env name op.name op.routine code.calls-array·left-sizes code.calls-entries·read-type code.calls-operations·write-frame (met 𝓤 H 𝓜 𝓖 𝓡) (code.unfolded 𝓤 H 𝓜 𝓡) (λ s x. tt)

@@ -25,7 +25,7 @@ clean-shape-spec =
     (λ c. search needs)
     (λ c. search steps)
     (λ c. search steps)
-    (λ c κs. search steps)
+    (λ c κs. let asked = c .before .before .before .before .before .before .before .before .before .before .before .before .before .before .before .before .pre in (search steps, (search steps, asked .1)))
     (λ c. search steps)
     (λ c. search steps)
     (λ c. search steps)

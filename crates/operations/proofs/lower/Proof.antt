@@ -10,7 +10,7 @@ use Rattle.operations.proofs.lower.Tie as tie
 no-room : tie.Need-returns
 no-room c =
     let root = c .before .before .before .read2 .given .1 in
-    let read = c .before .before .before .before .before .before .before .before .pre in
+    let read = c .before .before .before .before .before .before .before .before .pre .0 in
     let size = given-size read root in
     let short = c .if1 .taken in
     lower-no-room (given-table read) (given-root root) (omega arith)
@@ -18,15 +18,15 @@ no-room c =
 room : tie.Need-write-lowered-requires
 room c κs =
     let root = c .before .before .before .before .before .read2 .given .1 in
-    let read = c .before .before .before .before .before .before .before .before .before .before .pre in
+    let read = c .before .before .before .before .before .before .before .before .before .before .pre .0 in
     let size = given-size read root in
     let enough = c .before .before .if1 .left in
-    (lower-given (given-table read) (given-root root), lower-room (given-table read) (given-root root) (c .before .before .before .before .before .before .before .before .before .before .args .out .now) (omega arith))
+    (lower-given (given-table read) (given-root root), (lower-room (given-table read) (given-root root) (c .before .before .before .before .before .before .before .before .before .before .args .out .now) (omega arith), search needs))
 
 result : tie.Need-returns-3
 result c =
     let root = c .before .before .before .before .before .before .before .before .read2 .given .1 in
-    let read = c .before .before .before .before .before .before .before .before .before .before .before .before .before .pre in
+    let read = c .before .before .before .before .before .before .before .before .before .before .before .before .before .pre .0 in
     let size = given-size read root in
     let enough = c .before .before .before .before .before .if1 .left in
     lower-done (given-table read) (given-root root) (omega arith) (c .before .before .write-lowered .ensures)
@@ -39,8 +39,8 @@ lower-spec =
     (λ c. search needs)
     (λ c. search needs)
     no-room
-    (λ c. ends-count (c .before .before .before .before .before .before .before .before .before .pre))
+    (λ c. ends-count (c .before .before .before .before .before .before .before .before .before .pre .0))
     room
-    (λ c. lower-refused (given-table (c .before .before .before .before .before .before .pre)) (given-refused (c .before .read .given .1)))
+    (λ c. lower-refused (given-table (c .before .before .before .before .before .before .pre .0)) (given-refused (c .before .read .given .1)))
     (λ c. search needs)
     result)

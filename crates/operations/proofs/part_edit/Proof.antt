@@ -12,14 +12,14 @@ use Rattle.operations.proofs.part_edit.Tie as tie
 given : tie.Need-edit-part-requires
 given c κs =
     let root = given-root (c .before .before .before .enum-told .given .1) in
-    let read = c .before .before .before .before .before .before .before .before .before .before .pre in
+    let read = c .before .before .before .before .before .before .before .before .before .before .pre .0 in
     let table = given-table read in
-    (lower-given table root, (frame-wide table root (widths-long read), unframe-lowers table root))
+    (lower-given table root, (frame-wide table root (widths-long read), (unframe-lowers table root, search needs)))
 
 bad-type : tie.Need-returns
 bad-type c =
     let known = c .before .before .before in
-    let delivers = edit-bad-type (given-table (c .before .before .before .before .before .before .before .before .pre)) _ _ _ (given-refused (c .before .read .given .1)) in
+    let delivers = edit-bad-type (given-table (c .before .before .before .before .before .before .before .before .pre .0)) _ _ _ (given-refused (c .before .read .given .1)) in
     (delivers, edit-demand _ _ _ _ _ (Refused (c .before .read .given .0 .0)) (λ i. known .before .before .before .before .shared-slice-known .given i .fits) (λ i. known .before .before .slice-known .given i .fits) (λ i. known .shared-slice-known4 .given i .fits) delivers)
 
 result : tie.Need-returns-2
@@ -34,7 +34,7 @@ part-edit-spec =
     (tie.spec
     (λ c. search needs)
     (λ c. search needs)
-    (λ c. ends-count (c .before .before .before .before .before .before .before .before .pre))
+    (λ c. ends-count (c .before .before .before .before .before .before .before .before .pre .0))
     (λ c. search needs)
     (λ c. search needs)
     (λ c. search needs)

@@ -11,12 +11,12 @@ use Rattle.operations.proofs.part_read.Tie as tie
 given : tie.Need-read-part-requires
 given c κs =
     let root = given-root (c .before .before .before .enum-told .given .1) in
-    let read = c .before .before .before .before .before .before .before .before .before .before .pre in
+    let read = c .before .before .before .before .before .before .before .before .before .before .pre .0 in
     let table = given-table read in
-    (lower-given table root, (frame-wide table root (widths-long read), unframe-lowers table root))
+    (lower-given table root, (frame-wide table root (widths-long read), (unframe-lowers table root, search needs)))
 
 bad-type : tie.Need-returns
-bad-type c = part-bad-type (given-table (c .before .before .before .before .before .before .before .before .pre)) _ _ (given-refused (c .before .read .given .1))
+bad-type c = part-bad-type (given-table (c .before .before .before .before .before .before .before .before .pre .0)) _ _ (given-refused (c .before .read .given .1))
 
 pub part-read-spec : {M : Type 1} → statement M
 part-read-spec =
@@ -24,7 +24,7 @@ part-read-spec =
     (tie.spec
     (λ c. search needs)
     (λ c. search needs)
-    (λ c. ends-count (c .before .before .before .before .before .before .before .before .pre))
+    (λ c. ends-count (c .before .before .before .before .before .before .before .before .pre .0))
     (λ c. search needs)
     (λ c. search needs)
     (λ c. search needs)

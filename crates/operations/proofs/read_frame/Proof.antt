@@ -12,16 +12,16 @@ use Rattle.operations.proofs.read_frame.Tie as tie
 given : tie.Need-accept-requires
 given c κs =
     let root = given-root (c .before .before .enum-told .given .1) in
-    let read = c .before .before .before .before .before .before .before .before .pre in
+    let read = c .before .before .before .before .before .before .before .before .pre .0 in
     let table = given-table read in
-    (lower-given table root, (frame-wide table root (widths-long read), unframe-lowers table root))
+    (lower-given table root, (frame-wide table root (widths-long read), (unframe-lowers table root, search needs)))
 
 fits : tie.Need-mul-len
 fits c =
     let count = c .before .n .given .1 in
     let answer = c .before .before .before .accept .ensures in
     let root = given-root (c .before .before .before .before .before .before .enum-told .given .1) in
-    let read = c .before .before .before .before .before .before .before .before .before .before .before .before .pre in
+    let read = c .before .before .before .before .before .before .before .before .before .before .before .before .pre .0 in
     unframe-fits (given-table read) root _ _ answer count (widths-long read)
 
 no-room : tie.Need-returns
@@ -29,7 +29,7 @@ no-room c =
     let count = c .before .before .n .given .1 in
     let answer = c .before .before .before .before .accept .ensures in
     let root = given-root (c .before .before .before .before .before .before .before .enum-told .given .1) in
-    let read = c .before .before .before .before .before .before .before .before .before .before .before .before .before .pre in
+    let read = c .before .before .before .before .before .before .before .before .before .before .before .before .before .pre .0 in
     let short = c .if1 .taken in
     unframe-no-room (given-table read) root _ _ answer count (widths-long read) (omega arith)
 
@@ -38,23 +38,23 @@ room c κs =
     let count = c .before .before .before .n .given .1 in
     let answer = c .before .before .before .before .before .accept .ensures in
     let root = given-root (c .before .before .before .before .before .before .before .before .enum-told .given .1) in
-    let read = c .before .before .before .before .before .before .before .before .before .before .before .before .before .before .pre in
+    let read = c .before .before .before .before .before .before .before .before .before .before .before .before .before .before .pre .0 in
     let table = given-table read in
     let long = widths-long read in
     let enough = c .before .if1 .left in
-    (lower-given table root, (frame-wide table root long, (unframe-inside table root _ _ answer count long, unframe-ready table root _ _ answer count long _ (omega arith))))
+    (lower-given table root, (frame-wide table root long, (unframe-inside table root _ _ answer count long, (unframe-ready table root _ _ answer count long _ (omega arith), search needs))))
 
 bad-frame : tie.Need-returns-3
 bad-frame c =
     let root = given-root (c .before .before .before .before .before .before .enum-told .given .1) in
-    unframe-bad-frame (given-table (c .before .before .before .before .before .before .before .before .before .before .before .before .pre)) root _ _ (c .before .before .before .accept .ensures) (c .before .x .given .1)
+    unframe-bad-frame (given-table (c .before .before .before .before .before .before .before .before .before .before .before .before .pre .0)) root _ _ (c .before .before .before .accept .ensures) (c .before .x .given .1)
 
 result : tie.Need-returns-4
 result c =
     let count = c .before .before .before .before .before .before .n .given .1 in
     let answer = c .before .before .before .before .before .before .before .before .accept .ensures in
     let root = given-root (c .before .before .before .before .before .before .before .before .before .before .before .enum-told .given .1) in
-    let read = c .before .before .before .before .before .before .before .before .before .before .before .before .before .before .before .before .before .pre in
+    let read = c .before .before .before .before .before .before .before .before .before .before .before .before .before .before .before .before .before .pre .0 in
     let enough = c .before .before .before .before .if1 .left in
     unframe-done (given-table read) root _ _ answer count (widths-long read) (omega arith) (c .before .before .write-value .ensures)
 
@@ -64,7 +64,7 @@ read-frame-spec =
     (tie.spec
     (λ c. search needs)
     (λ c. search needs)
-    (λ c. ends-count (c .before .before .before .before .before .before .before .pre))
+    (λ c. ends-count (c .before .before .before .before .before .before .before .pre .0))
     (λ c. search needs)
     (λ c. search needs)
     (λ c. search needs)
@@ -74,7 +74,7 @@ read-frame-spec =
     fits
     no-room
     room
-    (λ c. unframe-refused (given-table (c .before .before .before .before .before .before .before .pre)) _ (given-refused (c .before .read .given .1)))
+    (λ c. unframe-refused (given-table (c .before .before .before .before .before .before .before .pre .0)) _ (given-refused (c .before .read .given .1)))
     bad-frame
     (λ c. search needs)
     result)

@@ -16,16 +16,16 @@ no-room c =
     let answer = c .before .before .before .before .check-file .ensures in
     let root = given-root (c .before .before .before .before .before .before .enum-told .given .1) in
     let short = c .if1 .taken in
-    shape-no-room (given-table (c .before .before .before .before .before .before .before .before .before .before .before .before .pre)) root _ answer size (omega arith)
+    shape-no-room (given-table (c .before .before .before .before .before .before .before .before .before .before .before .before .pre .0)) root _ answer size (omega arith)
 
 room : tie.Need-write-shape-requires
 room c κs =
     let size = c .before .before .before .size .given .1 in
     let answer = c .before .before .before .before .before .check-file .ensures in
     let root = given-root (c .before .before .before .before .before .before .before .enum-told .given .1) in
-    let table = given-table (c .before .before .before .before .before .before .before .before .before .before .before .before .before .pre) in
+    let table = given-table (c .before .before .before .before .before .before .before .before .before .before .before .before .before .pre .0) in
     let enough = c .before .if1 .left in
-    (lower-given table root, shape-ready table root _ answer size _ (omega arith))
+    (lower-given table root, (shape-ready table root _ answer size _ (omega arith), search needs))
 
 pub write-shape-spec : {M : Type 1} → statement M
 write-shape-spec =
@@ -33,7 +33,7 @@ write-shape-spec =
     (tie.spec
     (λ c. search needs)
     (λ c. search needs)
-    (λ c. ends-count (c .before .before .before .before .before .before .before .pre))
+    (λ c. ends-count (c .before .before .before .before .before .before .before .pre .0))
     (λ c κs. search steps)
     (λ c. search needs)
     (λ c. search needs)

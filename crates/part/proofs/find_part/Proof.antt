@@ -13,10 +13,10 @@ use Rattle.part.proofs.step.Reads as step-reads
 use Rattle.value.proofs.wide.Reads as wide-reads
 
 abbrev Inv-loop : tie.InvT-loop
-Inv-loop ty ends widths frame path at₀ level₀ bit₀ j₀ at level bit j = Followed ty ends widths frame path at level bit j
+Inv-loop ty ends widths frame path lefts at₀ level₀ bit₀ j₀ at level bit j = Followed ty ends widths frame path at level bit j
 
 abbrev μ-loop : tie.MeasureT-loop
-μ-loop ty ends widths frame path at₀ level₀ bit₀ j₀ at level bit j = length path - j
+μ-loop ty ends widths frame path lefts at₀ level₀ bit₀ j₀ at level bit j = length path - j
 
 -- a step is left
 left-over : (c : lts.In-loop (wide-reads.Asked, wide-reads.Learnt, step-reads.Asked, step-reads.Learnt) reads.Pre reads.Post Inv-loop μ-loop) → c .before .loop .j < length (c .before .before .before .before .before .before .before .before .args .path .now)
@@ -68,7 +68,7 @@ loop-less : tie.Need-loop-less Inv-loop μ-loop
 loop-less c = let l = left-over (c .before .before .before .before .before .before .before .before) in omega arith
 
 loop-again : tie.Need-loop-again Inv-loop μ-loop
-loop-again c = followed-next (c .before .before .before .before .before .before .before .before .before .loop .inv) (left-over (c .before .before .before .before .before .before .before .before)) (c .before .before .before .before .before .before .wide .ensures .0) (c .before .before .before .before .wide2 .ensures .0) (c .before .before .before .step .ensures) (c .before .before .before .before .before .before .before .before .before .before .before .before .before .before .before .before .pre .1) (c .before .a .given .1)
+loop-again c = followed-next (c .before .before .before .before .before .before .before .before .before .loop .inv) (left-over (c .before .before .before .before .before .before .before .before)) (c .before .before .before .before .before .before .wide .ensures .0) (c .before .before .before .before .wide2 .ensures .0) (c .before .before .before .step .ensures) (c .before .before .before .before .before .before .before .before .before .before .before .before .before .before .before .before .pre .1 .0) (c .before .a .given .1)
 
 returns-3 : tie.Need-returns-3 Inv-loop μ-loop
 returns-3 c = followed-end (c .before .loop .inv) (c .loop-test .left)

@@ -48,7 +48,7 @@ sub-side-of : tie.Need-sub-side-of
 sub-side-of c = level (c .before .before)
 
 side-of-requires : tie.Need-side-of-requires
-side-of-requires c κs = let s = c .before .before .before .before .before .before .before in either-asked (s .pre .0) (s .pre .1) (c .before .before .head-at .ensures .0) (c .before .before .head-at .ensures .1) (c .enum-told6 .given .1)
+side-of-requires c κs = let s = c .before .before .before .before .before .before .before in let (h, i) = either-asked (s .pre .0) (s .pre .1 .0) (c .before .before .head-at .ensures .0) (c .before .before .head-at .ensures .1) (c .enum-told6 .given .1) in (h, (i, s .pre .1 .1))
 
 add-element-of : tie.Need-add-element-of
 add-element-of c = let l = next (c .before .before) in omega arith
@@ -57,7 +57,7 @@ sub-element-of : tie.Need-sub-element-of
 sub-element-of c = level (c .before .before)
 
 element-of-requires : tie.Need-element-of-requires
-element-of-requires c κs = let s = c .before .before .before .before .before .before .before in option-asked (s .pre .0) (s .pre .1) (c .before .before .head-at .ensures .0) (c .before .before .head-at .ensures .1) (c .enum-told7 .given .1)
+element-of-requires c κs = let s = c .before .before .before .before .before .before .before in option-asked (s .pre .0) (s .pre .1 .0) (c .before .before .head-at .ensures .0) (c .before .before .head-at .ensures .1) (c .enum-told7 .given .1)
 
 add-part-of : tie.Need-add-part-of
 add-part-of c = let l = next (c .before .before .before) in omega arith
@@ -66,7 +66,7 @@ sub-part-of : tie.Need-sub-part-of
 sub-part-of c = level (c .before .before .before)
 
 part-of-requires : tie.Need-part-of-requires
-part-of-requires c κs = let s = c .before .before .before .before .before .before .before .before in tuple-rowed (s .pre .0) (s .pre .1) (c .before .before .before .head-at .ensures .0) (c .before .before .before .head-at .ensures .1) (c .before .n .given .1)
+part-of-requires c κs = let s = c .before .before .before .before .before .before .before .before in tuple-rowed (s .pre .0) (s .pre .1 .0) (c .before .before .before .head-at .ensures .0) (c .before .before .before .head-at .ensures .1) (c .before .n .given .1)
 
 add-copy-of : tie.Need-add-copy-of
 add-copy-of c = let l = next (c .before .before .before) in omega arith
@@ -75,7 +75,7 @@ sub-copy-of : tie.Need-sub-copy-of
 sub-copy-of c = level (c .before .before .before)
 
 copy-of-requires : tie.Need-copy-of-requires
-copy-of-requires c κs = let s = c .before .before .before .before .before .before .before .before in array-asked (s .pre .0) (s .pre .1) (c .before .before .before .head-at .ensures .0) (c .before .before .before .head-at .ensures .1) (c .before .n2 .given .1)
+copy-of-requires c κs = let s = c .before .before .before .before .before .before .before .before in array-asked (s .pre .0) (s .pre .1 .0) (c .before .before .before .head-at .ensures .0) (c .before .before .before .head-at .ensures .1) (c .before .n2 .given .1)
 
 add-element-of-2 : tie.Need-add-element-of-2
 add-element-of-2 c = let l = next (c .before .before .before) in omega arith
@@ -84,7 +84,7 @@ sub-element-of-2 : tie.Need-sub-element-of-2
 sub-element-of-2 c = level (c .before .before .before)
 
 element-of-requires-2 : tie.Need-element-of-requires-2
-element-of-requires-2 c κs = let s = c .before .before .before .before .before .before .before .before in listed-asked (s .pre .0) (s .pre .1) (c .before .before .before .head-at .ensures .0) (c .before .before .before .head-at .ensures .1) (c .before .bound .given .1)
+element-of-requires-2 c κs = let s = c .before .before .before .before .before .before .before .before in listed-asked (s .pre .0) (s .pre .1 .0) (c .before .before .before .head-at .ensures .0) (c .before .before .before .head-at .ensures .1) (c .before .bound .given .1)
 
 add-variant-of : tie.Need-add-variant-of
 add-variant-of c = let l = next (c .before .before .before) in omega arith
@@ -93,7 +93,7 @@ sub-variant-of : tie.Need-sub-variant-of
 sub-variant-of c = level (c .before .before .before)
 
 variant-of-requires : tie.Need-variant-of-requires
-variant-of-requires c κs = let s = c .before .before .before .before .before .before .before .before in enum-asked (s .pre .0) (s .pre .1) (c .before .before .before .head-at .ensures .0) (c .before .before .before .head-at .ensures .1) (c .before .n3 .given .1)
+variant-of-requires c κs = let s = c .before .before .before .before .before .before .before .before in let (n, (h, (i, (l, k)))) = enum-asked (s .pre .0) (s .pre .1 .0) (c .before .before .before .head-at .ensures .0) (c .before .before .before .head-at .ensures .1) (c .before .n3 .given .1) in (n, (h, (i, (l, (k, s .pre .1 .1)))))
 
 returns : tie.Need-returns
 unfolding below

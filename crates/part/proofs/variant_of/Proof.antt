@@ -32,7 +32,7 @@ add-part-of c =
     omega arith
 
 part-of-requires : tie.Need-part-of-requires
-part-of-requires c κs = let s = c .before .before .before .before .before .before .before .before .before .before in let a = s .args in payload-rowed (a .n) (a .frame .now) (a .bit) (c .before .before .before .before .before .find-choice .ensures) (s .pre .1 .1 .1 .1) (c .before .before .before .before .rec-at .ensures) (c .before .before .m .given .1)
+part-of-requires c κs = let s = c .before .before .before .before .before .before .before .before .before .before in let a = s .args in payload-rowed (a .n) (a .frame .now) (a .bit) (c .before .before .before .before .before .find-choice .ensures) (s .pre .1 .1 .1 .1 .0) (c .before .before .before .before .rec-at .ensures) (c .before .before .m .given .1)
 
 returns : tie.Need-returns
 unfolding in-variant

@@ -49,53 +49,53 @@ use Rattle.types.proofs.head_at.Reads as head-at-reads
 use Rattle.rebuild.proofs.+read_block+read_list+read_product+read_record+read_sum.{statement}
 use Rattle.rebuild.proofs.+read_block+read_list+read_product+read_record+read_sum.Tie.{close}
 
-abbrev μ-read-block : Measures 3 read-block-kinds.ps ℕ
+abbrev μ-read-block : Measures 4 read-block-kinds.ps ℕ
 μ-read-block κs a = a .1 .1 .1 .0 * 2 ^ 17 + a .1 .1 .1 .1 .0 + 2
 
-abbrev μ-read-list : Measures 3 read-list-kinds.ps ℕ
+abbrev μ-read-list : Measures 4 read-list-kinds.ps ℕ
 μ-read-list κs a = a .1 .1 .1 .0 * 2 ^ 17 + a .1 .1 .1 .1 .0 .0 + 4
 
-abbrev μ-read-product : Measures 3 read-product-kinds.ps ℕ
+abbrev μ-read-product : Measures 4 read-product-kinds.ps ℕ
 μ-read-product κs a = a .1 .1 .1 .0 * 2 ^ 17 + a .1 .1 .1 .1 .0 + 1
 
-abbrev μ-read-record : Measures 3 read-record-kinds.ps ℕ
+abbrev μ-read-record : Measures 4 read-record-kinds.ps ℕ
 μ-read-record κs a = a .1 .1 .1 .0 * 2 ^ 17
 
-abbrev μ-read-sum : Measures 3 read-sum-kinds.ps ℕ
+abbrev μ-read-sum : Measures 4 read-sum-kinds.ps ℕ
 μ-read-sum κs a = a .1 .1 .1 .0 * 2 ^ 17 + a .1 .1 .1 .1 .0 + 1
 
 ruleset steps = (limits-down, few-one, few-none, level-some, next-fits, left-fits, right-fits, pair-fits, record-refused, record-product, record-sum, record-list, record-payload, product-few, sum-few, list-few, left-few, left-over, block-small, block-few, block-over, copies-given, types-given, part-bit, part-copy, part-type, one-given, product-none, product-one, product-no, product-stop, product-on, chosen-first, chosen-left, chosen-right, chosen-no, block-left, block-right, block-no, listed-two, listed-no, listed-stop, listed-on, needs)
 
 module _ (t : ℕ) where
-  abbrev read-block-at : In 3 read-block-kinds.ps
-  read-block-at = and 3 read-block-kinds.ps (is 3 read-block-kinds.ps μ-read-block t) read-block.Pre
+  abbrev read-block-at : In 4 read-block-kinds.ps
+  read-block-at = and 4 read-block-kinds.ps (is 4 read-block-kinds.ps μ-read-block t) read-block.Pre
 
-  abbrev read-block-below : In 3 read-block-kinds.ps
-  read-block-below = and 3 read-block-kinds.ps (falls 3 read-block-kinds.ps _<_ μ-read-block t) read-block.Pre
+  abbrev read-block-below : In 4 read-block-kinds.ps
+  read-block-below = and 4 read-block-kinds.ps (falls 4 read-block-kinds.ps _<_ μ-read-block t) read-block.Pre
 
-  abbrev read-list-at : In 3 read-list-kinds.ps
-  read-list-at = and 3 read-list-kinds.ps (is 3 read-list-kinds.ps μ-read-list t) read-list.Pre
+  abbrev read-list-at : In 4 read-list-kinds.ps
+  read-list-at = and 4 read-list-kinds.ps (is 4 read-list-kinds.ps μ-read-list t) read-list.Pre
 
-  abbrev read-list-below : In 3 read-list-kinds.ps
-  read-list-below = and 3 read-list-kinds.ps (falls 3 read-list-kinds.ps _<_ μ-read-list t) read-list.Pre
+  abbrev read-list-below : In 4 read-list-kinds.ps
+  read-list-below = and 4 read-list-kinds.ps (falls 4 read-list-kinds.ps _<_ μ-read-list t) read-list.Pre
 
-  abbrev read-product-at : In 3 read-product-kinds.ps
-  read-product-at = and 3 read-product-kinds.ps (is 3 read-product-kinds.ps μ-read-product t) read-product.Pre
+  abbrev read-product-at : In 4 read-product-kinds.ps
+  read-product-at = and 4 read-product-kinds.ps (is 4 read-product-kinds.ps μ-read-product t) read-product.Pre
 
-  abbrev read-product-below : In 3 read-product-kinds.ps
-  read-product-below = and 3 read-product-kinds.ps (falls 3 read-product-kinds.ps _<_ μ-read-product t) read-product.Pre
+  abbrev read-product-below : In 4 read-product-kinds.ps
+  read-product-below = and 4 read-product-kinds.ps (falls 4 read-product-kinds.ps _<_ μ-read-product t) read-product.Pre
 
-  abbrev read-record-at : In 3 read-record-kinds.ps
-  read-record-at = and 3 read-record-kinds.ps (is 3 read-record-kinds.ps μ-read-record t) read-record.Pre
+  abbrev read-record-at : In 4 read-record-kinds.ps
+  read-record-at = and 4 read-record-kinds.ps (is 4 read-record-kinds.ps μ-read-record t) read-record.Pre
 
-  abbrev read-record-below : In 3 read-record-kinds.ps
-  read-record-below = and 3 read-record-kinds.ps (falls 3 read-record-kinds.ps _<_ μ-read-record t) read-record.Pre
+  abbrev read-record-below : In 4 read-record-kinds.ps
+  read-record-below = and 4 read-record-kinds.ps (falls 4 read-record-kinds.ps _<_ μ-read-record t) read-record.Pre
 
-  abbrev read-sum-at : In 3 read-sum-kinds.ps
-  read-sum-at = and 3 read-sum-kinds.ps (is 3 read-sum-kinds.ps μ-read-sum t) read-sum.Pre
+  abbrev read-sum-at : In 4 read-sum-kinds.ps
+  read-sum-at = and 4 read-sum-kinds.ps (is 4 read-sum-kinds.ps μ-read-sum t) read-sum.Pre
 
-  abbrev read-sum-below : In 3 read-sum-kinds.ps
-  read-sum-below = and 3 read-sum-kinds.ps (falls 3 read-sum-kinds.ps _<_ μ-read-sum t) read-sum.Pre
+  abbrev read-sum-below : In 4 read-sum-kinds.ps
+  read-sum-below = and 4 read-sum-kinds.ps (falls 4 read-sum-kinds.ps _<_ μ-read-sum t) read-sum.Pre
 
   abbrev read-block-calls : read-block-lts.Claims
   read-block-calls = (record-at-reads.Asked, record-at-reads.Learnt, read-unit-reads.Asked, read-unit-reads.Learnt, read-product-below, read-product.Post)
@@ -133,7 +133,7 @@ module _ (t : ℕ) where
 
   read-product-add-read-product : read-product-lts.Need-add-read-product read-product-calls read-product-at read-product.Post
   read-product-add-read-product c =
-      let k = c .before .before .before .before .before .before .before .before .pre .1 .1 .1 .short in
+      let k = c .before .before .before .before .before .before .before .before .pre .1 .1 .1 .0 .short in
       let l : length (c .before .before .before .before .before .before .before .before .args .shape .now) < 2 ^ 64 = omega arith in
       pair-fits (c .before .before .before .before .before .before .before .before .args .shape .now) (c .before .before .before .before .before .before .before .before .args .p) (c .before .before .record-at .result) (c .before .before .record-at .ensures) l (c .before .if3 .left)
 
@@ -161,7 +161,7 @@ module _ (t : ℕ) where
       let i = as-product (c .before .before .before .before .before .before .before .before .pre .1 .0) (reader (c .before .before .before .before .before .before .before .before .args .shape .now)) _ _ (c .before .before .before .before .head-at .ensures .0) (c .before .before .before .before .head-at .ensures .1) (c .before .before .before .form-of .ensures) _ _ (c .before .parts .given .1) in
       let f = i .few in
       let l = level-some (g .1 .0) in
-      (omega arith, (f, (i .given, limits-down (g .1 .1))))
+      (omega arith, (f, (i .given, (limits-down (g .1 .1 .0), g .1 .1 .1))))
 
   read-record-read-sum-requires : read-record-lts.Need-read-sum-requires read-record-calls read-record-at read-record.Post
   read-record-read-sum-requires c κs =
@@ -169,7 +169,7 @@ module _ (t : ℕ) where
       let i = as-sum (c .before .before .before .before .before .before .before .before .pre .1 .0) (reader (c .before .before .before .before .before .before .before .before .args .shape .now)) _ _ (c .before .before .before .before .head-at .ensures .0) (c .before .before .before .before .head-at .ensures .1) (c .before .before .before .form-of .ensures) _ (c .before .n .given .1) in
       let f = i .few in
       let l = level-some (g .1 .0) in
-      (omega arith, ((i .some, f), (i .given, limits-down (g .1 .1))))
+      (omega arith, ((i .some, f), (i .given, (limits-down (g .1 .1 .0), g .1 .1 .1))))
 
   read-record-read-list-requires : read-record-lts.Need-read-list-requires read-record-calls read-record-at read-record.Post
   read-record-read-list-requires c κs =
@@ -177,7 +177,7 @@ module _ (t : ℕ) where
       let i = as-list (c .before .before .before .before .before .before .before .before .pre .1 .0) (reader (c .before .before .before .before .before .before .before .before .args .shape .now)) _ _ (c .before .before .before .before .head-at .ensures .0) (c .before .before .before .before .head-at .ensures .1) (c .before .before .before .form-of .ensures) _ (c .before .bound .given .1) in
       let f = bound-small (i .fair) in
       let l = level-some (g .1 .0) in
-      (omega arith, (i .fair, (i .given, limits-down (g .1 .1))))
+      (omega arith, (i .fair, (i .given, (limits-down (g .1 .1 .0), g .1 .1 .1))))
 
   read-record-read-product-requires-2 : read-record-lts.Need-read-product-requires-2 read-record-calls read-record-at read-record.Post
   read-record-read-product-requires-2 c κs =
@@ -185,7 +185,7 @@ module _ (t : ℕ) where
       let i = as-payload (c .before .before .before .before .before .before .before .before .pre .1 .0) (reader (c .before .before .before .before .before .before .before .before .args .shape .now)) _ _ (c .before .before .before .before .head-at .ensures .0) (c .before .before .before .before .head-at .ensures .1) (c .before .before .before .form-of .ensures) _ (c .before .n2 .given .1) in
       let f = i .few in
       let l = level-some (g .1 .0) in
-      (omega arith, (f, (i .given, limits-down (g .1 .1))))
+      (omega arith, (f, (i .given, (limits-down (g .1 .1 .0), g .1 .1 .1))))
 
   read-sum-read-record-requires : read-sum-lts.Need-read-record-requires read-sum-calls read-sum-at read-sum.Post
   read-sum-read-record-requires c κs = let g = c .before .before .before .before .pre in (omega arith, (one-given (g .1 .1 .0) (c .if1 .taken), g .1 .1 .1))
@@ -218,7 +218,7 @@ pub +read-block+read-list+read-product+read-record+read-sum-spec : {M : Type 1} 
 +read-block+read-list+read-product+read-record+read-sum-spec =
     close μ-read-block μ-read-list μ-read-product μ-read-record μ-read-sum
     (λ t. read-block-lts.spec (read-block-calls t) (read-block-at t) read-block.Post (λ c κs. search steps) (λ c. search steps) (λ c κs. search steps) (λ c. search steps) (λ c. search steps) (λ c κs. search steps) (λ c. search steps) (λ c. search steps))
-    (λ t. read-list-lts.spec (read-list-calls t) (read-list-at t) read-list.Post (λ c κs. search steps) (λ c. search steps) (λ c κs. search steps) (λ c κs. search steps) (λ c. search steps) (λ c κs. search steps) (λ c. search steps) (λ c κs. search steps) (λ c. search steps) (read-list-read-block-requires-2 t) (λ c. search steps) (λ c. search steps) (read-list-read-list-requires t) (λ c κs. search steps) (λ c. search steps) (λ c. search steps) (λ c. search steps))
-    (λ t. read-product-lts.spec (read-product-calls t) (read-product-at t) read-product.Post (λ c κs. search steps) (λ c. search steps) (λ c. search steps) (λ c κs. search steps) (λ c. search steps) (λ c κs. search steps) (λ c. search steps) (λ c κs. search steps) (λ c. search steps) (λ c. search steps) (λ c. search steps) (λ c κs. search steps) (λ c. search steps) (λ c κs. search steps) (read-product-sub-others t) (read-product-add-read-product t) (read-product-read-product-requires t) (λ c. search steps) (λ c. search steps) (read-product-after-requires t) (read-product-read-product-requires-2 t) (λ c κs. search steps) (λ c. search steps) (λ c. search steps))
+    (λ t. read-list-lts.spec (read-list-calls t) (read-list-at t) read-list.Post (λ c κs. search steps) (λ c. search steps) (λ c κs. search steps) (λ c κs. search steps) (λ c. search steps) (λ c κs. search steps) (λ c. search steps) (λ c κs. search steps) (λ c. search steps) (read-list-read-block-requires-2 t) (λ c. search steps) (λ c. search steps) (read-list-read-list-requires t) (λ c κs. let g = c .before .before .before .before .before .before .before .before .before .before .before .before .before .before .before .pre in search steps) (λ c. search steps) (λ c. search steps) (λ c. let g = c .before .before .before .before .before .before .before .before .before .before .before .before .before .before .before .before .pre in search steps))
+    (λ t. read-product-lts.spec (read-product-calls t) (read-product-at t) read-product.Post (λ c κs. search steps) (λ c. search steps) (λ c. search steps) (λ c κs. search steps) (λ c. search steps) (λ c κs. search steps) (λ c. search steps) (λ c κs. search steps) (λ c. search steps) (λ c. search steps) (λ c. search steps) (λ c κs. search steps) (λ c. search steps) (λ c κs. search steps) (read-product-sub-others t) (read-product-add-read-product t) (read-product-read-product-requires t) (λ c. search steps) (λ c. search steps) (read-product-after-requires t) (read-product-read-product-requires-2 t) (λ c κs. let g = c .before .before .before .before .before .before .before .before .before .before .before .before .before .before .pre in search steps) (λ c. search steps) (λ c. let g = c .before .before .before .before .before .before .before .before .before .before .before .before .before .before .before .pre in search steps))
     (λ t. read-record-lts.spec (read-record-calls t) (read-record-at t) read-record.Post (λ c κs. search steps) (λ c κs. search steps) (λ c. search steps) (λ c. search steps) (λ c. search steps) (λ c. search steps) (read-record-read-product-requires t) (λ c κs. search steps) (λ c. search steps) (λ c. search steps) (λ c. search steps) (read-record-read-sum-requires t) (λ c κs. search steps) (λ c. search steps) (λ c. search steps) (λ c. search steps) (read-record-read-list-requires t) (λ c κs. search steps) (λ c. search steps) (λ c. search steps) (λ c. search steps) (read-record-read-product-requires-2 t) (λ c. search steps) (λ c. search steps) (λ c. search steps) (λ c. search steps) (λ c. search steps))
     (λ t. read-sum-lts.spec (read-sum-calls t) (read-sum-at t) read-sum.Post (read-sum-read-record-requires t) (λ c. search steps) (λ c κs. search steps) (λ c κs. search steps) (λ c. search steps) (read-sum-read-sum-requires t) (λ c. search steps) (read-sum-sub-others t) (read-sum-hop-requires t) (λ c. search steps) (read-sum-read-sum-requires-2 t) (λ c. search steps) (λ c. search steps))

@@ -7,13 +7,13 @@ use Rattle.report.proofs.write_accepted.Statement.{statement}
 use Rattle.report.proofs.write_accepted.Tie as tie
 
 lowered-room : tie.Need-write-lowered-requires
-lowered-room c κs = let a = c .before .before .before .before .before .before .pre .0 in (a .given, search (lowered-ready a, needs))
+lowered-room c κs = let a = c .before .before .before .before .before .before .pre .0 in (a .given, (search (lowered-ready a, needs), search needs))
 
 shape-room : tie.Need-write-shape-requires
-shape-room c κs = let a = c .before .before .before .before .before .before .before .before .before .pre .0 in (a .given, shape-ready a _ (search needs))
+shape-room c κs = let a = c .before .before .before .before .before .before .before .before .before .pre .0 in (a .given, (shape-ready a _ (search needs), search needs))
 
 frame-room : tie.Need-write-frame-requires
-frame-room c κs = let a = c .before .before .before .before .before .before .before .before .before .before .before .before .pre .0 in (a .given, (a .wide, frame-ready a _ (search needs)))
+frame-room c κs = let a = c .before .before .before .before .before .before .before .before .before .before .before .before .pre .0 in (a .given, (a .wide, (frame-ready a _ (search needs), search needs)))
 
 lowered-cut : tie.Need-array-share-prefix-lowered
 lowered-cut c = let a = c .before .before .before .before .before .before .before .before .before .before .before .before .before .before .pre .0 in wrote-counts (search (lowered-ready a, needs)) (c .before .before .before .before .before .before .before .write-lowered .ensures) .0
@@ -35,7 +35,7 @@ frame-count c = let a = c .before .before .before .before .before .before .befor
 
 lines : tie.Need-write-job-requires
 lines c κs =
-    let (a, room) = c .before .before .before .before .before .before .before .before .before .before .before .before .before .before .before .before .before .before .pre in
+    let (a, (room, sizes)) = c .before .before .before .before .before .before .before .before .before .before .before .before .before .before .before .before .before .before .pre in
     omega (arith, lines-room a (c .before .before .before .before .before .before .before .before .before .before .before .write-lowered .ensures) (shape-held a (c .before .before .before .before .before .before .before .before .write-shape .ensures)) (frame-held a (c .before .before .before .before .before .write-frame .ensures)))
 
 returns : tie.Need-returns

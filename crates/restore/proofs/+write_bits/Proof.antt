@@ -18,15 +18,15 @@ use Rattle.restore.proofs.+write_bits.Tie.{close}
 
 ruleset steps = (bit-inside, bit-fits, bit-placed, needs)
 
-abbrev μ-write-bits : Measures 2 write-bits-kinds.ps ℕ
+abbrev μ-write-bits : Measures 3 write-bits-kinds.ps ℕ
 μ-write-bits κs a = a .1 .1 .0
 
 module _ (t : ℕ) where
-  abbrev write-bits-at : In 2 write-bits-kinds.ps
-  write-bits-at = and 2 write-bits-kinds.ps (is 2 write-bits-kinds.ps μ-write-bits t) write-bits.Pre
+  abbrev write-bits-at : In 3 write-bits-kinds.ps
+  write-bits-at = and 3 write-bits-kinds.ps (is 3 write-bits-kinds.ps μ-write-bits t) write-bits.Pre
 
-  abbrev write-bits-below : In 2 write-bits-kinds.ps
-  write-bits-below = and 2 write-bits-kinds.ps (falls 2 write-bits-kinds.ps _<_ μ-write-bits t) write-bits.Pre
+  abbrev write-bits-below : In 3 write-bits-kinds.ps
+  write-bits-below = and 3 write-bits-kinds.ps (falls 3 write-bits-kinds.ps _<_ μ-write-bits t) write-bits.Pre
 
   abbrev write-bits-calls : write-bits-lts.Claims
   write-bits-calls = (set-bit-reads.Asked, set-bit-reads.Learnt, btree-split-index-reads.Asked, btree-split-index-reads.Learnt, write-bits-below, write-bits.Post)
@@ -44,7 +44,7 @@ module _ (t : ℕ) where
   sub-others c = let l = split c .less in omega arith
 
   add-write-bits : write-bits-lts.Need-add-write-bits write-bits-calls write-bits-at write-bits.Post
-  add-write-bits c = bits-fit _ _ _ (c .before .before .before .before .pre .1 .1) (split c) (search needs)
+  add-write-bits c = bits-fit _ _ _ (c .before .before .before .before .pre .1 .1 .0) (split c) (search needs)
 
   write-bits-requires : write-bits-lts.Need-write-bits-requires write-bits-calls write-bits-at write-bits.Post
   write-bits-requires c κs =
@@ -53,7 +53,7 @@ module _ (t : ℕ) where
       let l = s .less in
       let k = p .1 .0 .1 in
       let m = p .1 .0 .3 in
-      (omega arith, ((s .some, omega arith, p .1 .0 .2, omega arith), left-bits _ _ _ (p .1 .1) s))
+      (omega arith, ((s .some, omega arith, p .1 .0 .2, omega arith), (left-bits _ _ _ (p .1 .1 .0) s, p .1 .1 .1)))
 
   add-write-bits-2 : write-bits-lts.Need-add-write-bits-2 write-bits-calls write-bits-at write-bits.Post
   add-write-bits-2 c =
@@ -71,13 +71,13 @@ module _ (t : ℕ) where
       let i = s .some in
       let k = p .1 .0 .1 in
       let m = p .1 .0 .3 in
-      (omega arith, ((omega arith, omega arith, v .wrote .same ∙ p .1 .0 .2, omega arith), right-bits _ _ _ (p .1 .1) s v))
+      (omega arith, ((omega arith, omega arith, v .wrote .same ∙ p .1 .0 .2, omega arith), (right-bits _ _ _ (p .1 .1 .0) s v, p .1 .1 .1)))
 
   same-length-2 : write-bits-lts.Need-same-length-2 write-bits-calls write-bits-at write-bits.Post
   same-length-2 c = c .before .before .write-bits2 .ensures .wrote .same ∙ c .before .before .before .before .before .before .write-bits .ensures .wrote .same
 
   returns-2 : write-bits-lts.Need-returns-2 write-bits-calls write-bits-at write-bits.Post
-  returns-2 c = bits-placed _ _ _ (c .before .before .before .before .before .before .before .before .before .before .before .before .pre .1 .1) (split (c .before .before .before .before .before .before .before .before)) (c .before .before .before .before .before .before .write-bits .ensures) (c .before .before .write-bits2 .ensures)
+  returns-2 c = bits-placed _ _ _ (c .before .before .before .before .before .before .before .before .before .before .before .before .pre .1 .1 .0) (split (c .before .before .before .before .before .before .before .before)) (c .before .before .before .before .before .before .write-bits .ensures) (c .before .before .write-bits2 .ensures)
 
 pub +write-bits-spec : {M : Type 1} → statement M
 +write-bits-spec =

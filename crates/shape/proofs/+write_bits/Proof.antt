@@ -21,15 +21,15 @@ use Rattle.shape.proofs.write_bit.Reads as write-bit-reads
 use Rattle.shape.proofs.+write_bits.{statement}
 use Rattle.shape.proofs.+write_bits.Tie.{close}
 
-abbrev μ-write-bits : Measures 2 write-bits-kinds.ps ℕ
+abbrev μ-write-bits : Measures 3 write-bits-kinds.ps ℕ
 μ-write-bits κs a = a .1 .1 .1 .0
 
 module _ (t : ℕ) where
-  abbrev write-bits-at : In 2 write-bits-kinds.ps
-  write-bits-at = and 2 write-bits-kinds.ps (is 2 write-bits-kinds.ps μ-write-bits t) write-bits.Pre
+  abbrev write-bits-at : In 3 write-bits-kinds.ps
+  write-bits-at = and 3 write-bits-kinds.ps (is 3 write-bits-kinds.ps μ-write-bits t) write-bits.Pre
 
-  abbrev write-bits-below : In 2 write-bits-kinds.ps
-  write-bits-below = and 2 write-bits-kinds.ps (falls 2 write-bits-kinds.ps _<_ μ-write-bits t) write-bits.Pre
+  abbrev write-bits-below : In 3 write-bits-kinds.ps
+  write-bits-below = and 3 write-bits-kinds.ps (falls 3 write-bits-kinds.ps _<_ μ-write-bits t) write-bits.Pre
 
   abbrev calls : write-bits-lts.Claims
   calls = (write-bit-reads.Asked, write-bit-reads.Learnt, btree-split-index-reads.Asked, btree-split-index-reads.Learnt, write-bits-below, write-bits.Post)
@@ -38,13 +38,13 @@ module _ (t : ℕ) where
   write-bit-requires c κs =
       let g = c .before .before .before .before .pre .1 in
       let e = c .before .if1 .taken in
-      (one-there (g .0) e, rw (← one-is (g .0) e) (g .1))
+      (one-there (g .0) e, rw (← one-is (g .0) e) (g .1 .0))
 
   returns : write-bits-lts.Need-returns calls write-bits-at write-bits.Post
   returns c = wrote-as (ap shape-records (one-is (c .before .before .before .before .before .before .before .pre .1 .0) (c .before .before .before .before .if1 .taken))) (c .before .before .write-bit .ensures)
 
   same-length : write-bits-lts.Need-same-length calls write-bits-at write-bits.Post
-  same-length c = wrote-length (returns c) (c .before .before .before .before .before .before .before .pre .1 .1)
+  same-length c = wrote-length (returns c) (c .before .before .before .before .before .before .before .pre .1 .1 .0)
 
   slice-write-out : write-bits-lts.Need-slice-write-out calls write-bits-at write-bits.Post
   slice-write-out c = search (room-some, needs)
@@ -53,7 +53,7 @@ module _ (t : ℕ) where
   btree-split-index-requires c κs =
       let g = c .before .before .before .pre .1 .0 in
       let o = c .if1 .left in
-      (omega arith, omega arith)
+      ((omega arith, omega arith), search needs)
 
   abbrev start : write-bits-lts.After-btree-split-index calls write-bits-at write-bits.Post → write-bits-lts.Start calls write-bits-at write-bits.Post
   start c = c .before .before .before .before
@@ -72,7 +72,7 @@ module _ (t : ℕ) where
 
   -- what is written of several bits
   sides : (c : write-bits-lts.After-btree-split-index calls write-bits-at write-bits.Post) → Fork 3 (records (start c) (start c .args .j) (c .btree-split-index .result)) (records (start c) (start c .args .j + c .btree-split-index .result) (start c .args .n - c .btree-split-index .result)) (records (start c) (start c .args .j) (start c .args .n)) (start c .args .out .now)
-  sides c = bits-fork (start c .pre .1 .0) (c .btree-split-index .ensures) (c .before .if1 .left) _ (start c .pre .1 .1)
+  sides c = bits-fork (start c .pre .1 .0) (c .btree-split-index .ensures) (c .before .if1 .left) _ (start c .pre .1 .1 .0)
 
   sub-others : write-bits-lts.Need-sub-others calls write-bits-at write-bits.Post
   sub-others c = let l = less c in omega arith
@@ -84,7 +84,7 @@ module _ (t : ℕ) where
   part-write-bits-start c = fork-start (sides c)
 
   write-bits-requires : write-bits-lts.Need-write-bits-requires calls write-bits-at write-bits.Post
-  write-bits-requires c κs = let l = less (c .before) in (omega arith, (left-bits (c .before), left-room (sides (c .before))))
+  write-bits-requires c κs = let l = less (c .before) in (omega arith, (left-bits (c .before), (left-room (sides (c .before)), search needs)))
 
   add-k : write-bits-lts.Need-add-k calls write-bits-at write-bits.Post
   add-k c = omega (arith, left-small (sides (c .before .before .before .before)) (c .before .before .write-bits .ensures))
@@ -102,7 +102,7 @@ module _ (t : ℕ) where
   write-bits-requires-2 c κs =
       let l = less (c .before .before .before .before .before) in
       let b = left-bits (c .before .before .before .before .before) .some-bits in
-      (omega arith, (right-bits (c .before .before .before .before .before), right-room (sides (c .before .before .before .before .before)) (c .before .before .before .write-bits .ensures)))
+      (omega arith, (right-bits (c .before .before .before .before .before), (right-room (sides (c .before .before .before .before .before)) (c .before .before .before .write-bits .ensures), search needs)))
 
   add-result : write-bits-lts.Need-add-result calls write-bits-at write-bits.Post
   add-result c = let g = c .before .before .before .before .before .before .before .before .before .before .before .before .good in omega (arith, fork-small (sides (c .before .before .before .before .before .before .before .before)) (c .before .before .before .before .before .before .write-bits .ensures) (c .before .before .write-bits2 .ensures))
@@ -111,7 +111,7 @@ module _ (t : ℕ) where
   returns-2 c = fork-done (sides (c .before .before .before .before .before .before .before .before)) (c .before .before .before .before .before .before .write-bits .ensures) (c .before .before .write-bits2 .ensures)
 
   same-length-2 : write-bits-lts.Need-same-length-2 calls write-bits-at write-bits.Post
-  same-length-2 c = wrote-length (returns-2 c) (c .before .before .before .before .before .before .before .before .before .before .before .before .pre .1 .1)
+  same-length-2 c = wrote-length (returns-2 c) (c .before .before .before .before .before .before .before .before .before .before .before .before .pre .1 .1 .0)
 
 pub +write-bits-spec : {M : Type 1} → statement M
 +write-bits-spec =

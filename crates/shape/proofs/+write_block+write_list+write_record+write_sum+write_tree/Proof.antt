@@ -56,51 +56,51 @@ use Rattle.shape.proofs.+write_block+write_list+write_record+write_sum+
 
 ruleset steps = (ready-some, level-some, next-fits, record-fits, needs)
 
-abbrev μ-write-block : Measures 4 write-block-kinds.ps ℕ
+abbrev μ-write-block : Measures 5 write-block-kinds.ps ℕ
 μ-write-block κs a = a .1 .1 .1 .0 * 2 ^ 17 + a .1 .1 .1 .1 .0 + 2
 
-abbrev μ-write-list : Measures 4 write-list-kinds.ps ℕ
+abbrev μ-write-list : Measures 5 write-list-kinds.ps ℕ
 μ-write-list κs a = a .1 .1 .1 .0 * 2 ^ 17 + a .1 .1 .1 .1 .0 .0 + 4
 
-abbrev μ-write-record : Measures 4 write-record-kinds.ps ℕ
+abbrev μ-write-record : Measures 5 write-record-kinds.ps ℕ
 μ-write-record κs a = a .1 .1 .1 .0 * 2 ^ 17
 
-abbrev μ-write-sum : Measures 4 write-sum-kinds.ps ℕ
+abbrev μ-write-sum : Measures 5 write-sum-kinds.ps ℕ
 μ-write-sum κs a = a .1 .1 .1 .0 * 2 ^ 17 + a .1 .1 .1 .1 .0
 
-abbrev μ-write-tree : Measures 4 write-tree-kinds.ps ℕ
+abbrev μ-write-tree : Measures 5 write-tree-kinds.ps ℕ
 μ-write-tree κs a = a .1 .1 .1 .0 * 2 ^ 17 + a .1 .1 .1 .1 .0 + 1
 
 module _ (t : ℕ) where
-  abbrev write-block-at : In 4 write-block-kinds.ps
-  write-block-at = and 4 write-block-kinds.ps (is 4 write-block-kinds.ps μ-write-block t) write-block.Pre
+  abbrev write-block-at : In 5 write-block-kinds.ps
+  write-block-at = and 5 write-block-kinds.ps (is 5 write-block-kinds.ps μ-write-block t) write-block.Pre
 
-  abbrev write-block-below : In 4 write-block-kinds.ps
-  write-block-below = and 4 write-block-kinds.ps (falls 4 write-block-kinds.ps _<_ μ-write-block t) write-block.Pre
+  abbrev write-block-below : In 5 write-block-kinds.ps
+  write-block-below = and 5 write-block-kinds.ps (falls 5 write-block-kinds.ps _<_ μ-write-block t) write-block.Pre
 
-  abbrev write-list-at : In 4 write-list-kinds.ps
-  write-list-at = and 4 write-list-kinds.ps (is 4 write-list-kinds.ps μ-write-list t) write-list.Pre
+  abbrev write-list-at : In 5 write-list-kinds.ps
+  write-list-at = and 5 write-list-kinds.ps (is 5 write-list-kinds.ps μ-write-list t) write-list.Pre
 
-  abbrev write-list-below : In 4 write-list-kinds.ps
-  write-list-below = and 4 write-list-kinds.ps (falls 4 write-list-kinds.ps _<_ μ-write-list t) write-list.Pre
+  abbrev write-list-below : In 5 write-list-kinds.ps
+  write-list-below = and 5 write-list-kinds.ps (falls 5 write-list-kinds.ps _<_ μ-write-list t) write-list.Pre
 
-  abbrev write-record-at : In 4 write-record-kinds.ps
-  write-record-at = and 4 write-record-kinds.ps (is 4 write-record-kinds.ps μ-write-record t) write-record.Pre
+  abbrev write-record-at : In 5 write-record-kinds.ps
+  write-record-at = and 5 write-record-kinds.ps (is 5 write-record-kinds.ps μ-write-record t) write-record.Pre
 
-  abbrev write-record-below : In 4 write-record-kinds.ps
-  write-record-below = and 4 write-record-kinds.ps (falls 4 write-record-kinds.ps _<_ μ-write-record t) write-record.Pre
+  abbrev write-record-below : In 5 write-record-kinds.ps
+  write-record-below = and 5 write-record-kinds.ps (falls 5 write-record-kinds.ps _<_ μ-write-record t) write-record.Pre
 
-  abbrev write-sum-at : In 4 write-sum-kinds.ps
-  write-sum-at = and 4 write-sum-kinds.ps (is 4 write-sum-kinds.ps μ-write-sum t) write-sum.Pre
+  abbrev write-sum-at : In 5 write-sum-kinds.ps
+  write-sum-at = and 5 write-sum-kinds.ps (is 5 write-sum-kinds.ps μ-write-sum t) write-sum.Pre
 
-  abbrev write-sum-below : In 4 write-sum-kinds.ps
-  write-sum-below = and 4 write-sum-kinds.ps (falls 4 write-sum-kinds.ps _<_ μ-write-sum t) write-sum.Pre
+  abbrev write-sum-below : In 5 write-sum-kinds.ps
+  write-sum-below = and 5 write-sum-kinds.ps (falls 5 write-sum-kinds.ps _<_ μ-write-sum t) write-sum.Pre
 
-  abbrev write-tree-at : In 4 write-tree-kinds.ps
-  write-tree-at = and 4 write-tree-kinds.ps (is 4 write-tree-kinds.ps μ-write-tree t) write-tree.Pre
+  abbrev write-tree-at : In 5 write-tree-kinds.ps
+  write-tree-at = and 5 write-tree-kinds.ps (is 5 write-tree-kinds.ps μ-write-tree t) write-tree.Pre
 
-  abbrev write-tree-below : In 4 write-tree-kinds.ps
-  write-tree-below = and 4 write-tree-kinds.ps (falls 4 write-tree-kinds.ps _<_ μ-write-tree t) write-tree.Pre
+  abbrev write-tree-below : In 5 write-tree-kinds.ps
+  write-tree-below = and 5 write-tree-kinds.ps (falls 5 write-tree-kinds.ps _<_ μ-write-tree t) write-tree.Pre
 
   abbrev write-block-calls : write-block-lts.Claims
   write-block-calls = (write-tree-below, write-tree.Post)
@@ -124,18 +124,18 @@ module _ (t : ℕ) where
   elements : (c : write-block-lts.Else1 write-block-calls write-block-at write-block.Post)
       → Stem 2 (block-told (block-start c .args .level) (block-start c .args .ty .now) (block-start c .args .val .now) (block-start c .args .n) (block-start c .args .at) (block-start c .args .v))
       (balanced Copies (block-start c .args .level) (block-start c .args .ty .now) (block-start c .args .val .now) (block-start c .args .n) (block-start c .args .at) (block-start c .args .v)) (block-start c .args .out .now)
-  elements c = let h = c .if1 .left in block-stem _ _ _ _ _ _ _ (block-start c .pre .1 .1 .1) (omega arith)
+  elements c = let h = c .if1 .left in block-stem _ _ _ _ _ _ _ (block-start c .pre .1 .1 .1 .0) (omega arith)
 
   write-block-slice-write-out-2 : write-block-lts.Need-slice-write-out-2 write-block-calls write-block-at write-block.Post
   write-block-slice-write-out-2 c =
-      let l = empty-room _ _ _ _ _ _ _ (c .before .before .before .before .before .pre .1 .1 .1) (c .if1 .taken) in
+      let l = empty-room _ _ _ _ _ _ _ (c .before .before .before .before .before .pre .1 .1 .1 .0) (c .if1 .taken) in
       simp length-set (omega arith)
 
   write-block-returns : write-block-lts.Need-returns write-block-calls write-block-at write-block.Post
-  write-block-returns c = empty-placed _ _ _ _ _ _ _ (c .before .before .before .before .before .pre .1 .1 .1) (c .if1 .taken)
+  write-block-returns c = empty-placed _ _ _ _ _ _ _ (c .before .before .before .before .before .pre .1 .1 .1 .0) (c .if1 .taken)
 
   write-block-same-length : write-block-lts.Need-same-length write-block-calls write-block-at write-block.Post
-  write-block-same-length c = placed-length (c .before .before .before .before .before .pre .1 .1 .1) (write-block-returns c)
+  write-block-same-length c = placed-length (c .before .before .before .before .before .pre .1 .1 .1 .0) (write-block-returns c)
 
   write-block-sub-write-tree : write-block-lts.Need-sub-write-tree write-block-calls write-block-at write-block.Post
   write-block-sub-write-tree c = stem-start (elements c)
@@ -144,16 +144,16 @@ module _ (t : ℕ) where
   write-block-part-write-tree-start c = stem-start (elements c)
 
   write-block-write-tree-requires : write-block-lts.Need-write-tree-requires write-block-calls write-block-at write-block.Post
-  write-block-write-tree-requires c κs = (omega arith, (c .before .before .before .before .before .before .pre .1 .0, (given-copies _ (c .before .before .before .before .before .before .pre .1 .1 .0), stem-ready (elements (c .before)))))
+  write-block-write-tree-requires c κs = (omega arith, (c .before .before .before .before .before .before .pre .1 .0, (given-copies _ (c .before .before .before .before .before .before .pre .1 .1 .0), (stem-ready (elements (c .before)), search needs))))
 
-  write-block-add-t16 : write-block-lts.Need-add-t16 write-block-calls write-block-at write-block.Post
-  write-block-add-t16 c = omega (arith, stem-small (elements (c .before .before .before .before .before)) (c .before .before .before .write-tree .ensures .0))
+  write-block-add-t17 : write-block-lts.Need-add-t17 write-block-calls write-block-at write-block.Post
+  write-block-add-t17 c = omega (arith, stem-small (elements (c .before .before .before .before .before)) (c .before .before .before .write-tree .ensures .0))
 
   write-block-returns-2 : write-block-lts.Need-returns-2 write-block-calls write-block-at write-block.Post
   write-block-returns-2 c = stem-done (elements (c .before .before .before .before .before)) (c .before .before .before .write-tree .ensures .0)
 
   write-block-same-length-2 : write-block-lts.Need-same-length-2 write-block-calls write-block-at write-block.Post
-  write-block-same-length-2 c = placed-length (c .before .before .before .before .before .before .before .before .before .before .pre .1 .1 .1) (write-block-returns-2 c)
+  write-block-same-length-2 c = placed-length (c .before .before .before .before .before .before .before .before .before .before .pre .1 .1 .1 .0) (write-block-returns-2 c)
 
   abbrev list-start : write-list-lts.After-share write-list-calls write-list-at write-list.Post → write-list-lts.Start write-list-calls write-list-at write-list.Post
   list-start c = c .before .before .before .before .before .before .before .before .before .before
@@ -170,7 +170,7 @@ module _ (t : ℕ) where
 
   -- what is written of the list
   blocks : (c : write-list-lts.After-share write-list-calls write-list-at write-list.Post) → Pair (list-told (list-start c) (list-start c .args .bound) (list-start c .args .m) (list-start c .args .v)) (block-here (list-start c) (c .share .result)) (list-told (list-start c) (c .before .before .before .half .given .0 .0) (list-start c .args .m - c .share .result)) (list-start c .args .out .now)
-  blocks c = pair-of (halved c .same) (list-start c .pre .1 .1 .1)
+  blocks c = pair-of (halved c .same) (list-start c .pre .1 .1 .1 .0)
 
   abbrev two-start : write-list-lts.After-enum-told write-list-calls write-list-at write-list.Post → write-list-lts.Start write-list-calls write-list-at write-list.Post
   two-start c = c .before .before .before .before .before .before .before
@@ -184,7 +184,7 @@ module _ (t : ℕ) where
       let g = c .before .before .before .before .before .before .before .before .pre .1 in
       let l = g .0 .1 in
       let m = bound-small (g .0 .0) in
-      (omega arith, (omega arith, (g .1 .0, ready-as (block-is (c .before)) (g .1 .1))))
+      (omega arith, (omega arith, (g .1 .0, (ready-as (block-is (c .before)) (g .1 .1 .0), search needs))))
 
   write-list-sub-write-block : write-list-lts.Need-sub-write-block write-list-calls write-list-at write-list.Post
   write-list-sub-write-block c = pair-start (blocks c)
@@ -196,7 +196,7 @@ module _ (t : ℕ) where
   write-list-write-block-requires-2 c κs =
       let h = halved (c .before) in
       let m = bound-small (h .fair) in
-      (omega arith, (omega arith, (c .before .before .before .before .before .before .before .before .before .before .before .pre .1 .1 .0, left-ready (blocks (c .before)))))
+      (omega arith, (omega arith, (c .before .before .before .before .before .before .before .before .before .before .before .pre .1 .1 .0, (left-ready (blocks (c .before)), search needs))))
 
   write-list-add-k : write-list-lts.Need-add-k write-list-calls write-list-at write-list.Post
   write-list-add-k c = let g = c .before .before .before .before .before .before .before .before .before .before .before .before .before .before .before .good in omega (arith, pair-small (blocks (c .before .before .before .before .before)) (c .before .before .before .write-block2 .ensures))
@@ -213,52 +213,52 @@ module _ (t : ℕ) where
   write-list-write-list-requires : write-list-lts.Need-write-list-requires write-list-calls write-list-at write-list.Post
   write-list-write-list-requires c κs =
       let h = halved (c .before .before .before .before .before .before) in
-      (omega arith, ((h .fair, omega arith), (c .before .before .before .before .before .before .before .before .before .before .before .before .before .before .before .before .pre .1 .1 .0, right-ready (blocks (c .before .before .before .before .before .before)) (c .before .before .before .before .write-block2 .ensures))))
+      (omega arith, ((h .fair, omega arith), (c .before .before .before .before .before .before .before .before .before .before .before .before .before .before .before .before .pre .1 .1 .0, (right-ready (blocks (c .before .before .before .before .before .before)) (c .before .before .before .before .write-block2 .ensures), c .before .before .before .before .before .before .before .before .before .before .before .before .before .before .before .before .pre .1 .1 .1 .1))))
 
-  write-list-add-t21 : write-list-lts.Need-add-t21 write-list-calls write-list-at write-list.Post
-  write-list-add-t21 c = let g = c .before .before .before .before .before .before .before .before .before .before .before .before .before .before .before .before .before .before .before .before .good in omega (arith, pair-total (blocks (c .before .before .before .before .before .before .before .before .before .before)) (c .before .before .before .before .before .before .before .before .write-block2 .ensures) (c .before .before .before .write-list .ensures))
+  write-list-add-t22 : write-list-lts.Need-add-t22 write-list-calls write-list-at write-list.Post
+  write-list-add-t22 c = let g = c .before .before .before .before .before .before .before .before .before .before .before .before .before .before .before .before .before .before .before .before .good in omega (arith, pair-total (blocks (c .before .before .before .before .before .before .before .before .before .before)) (c .before .before .before .before .before .before .before .before .write-block2 .ensures) (c .before .before .before .write-list .ensures))
 
   write-list-returns : write-list-lts.Need-returns write-list-calls write-list-at write-list.Post
   write-list-returns c = placed-as (block-is (c .before .before .before .before)) (c .before .before .write-block .ensures)
 
   write-list-same-length : write-list-lts.Need-same-length write-list-calls write-list-at write-list.Post
-  write-list-same-length c = placed-length (c .before .before .before .before .before .before .before .before .before .before .before .pre .1 .1 .1) (write-list-returns c)
+  write-list-same-length c = placed-length (c .before .before .before .before .before .before .before .before .before .before .before .pre .1 .1 .1 .0) (write-list-returns c)
 
   write-list-returns-2 : write-list-lts.Need-returns-2 write-list-calls write-list-at write-list.Post
   write-list-returns-2 c = pair-done (blocks (c .before .before .before .before .before .before .before .before .before .before)) (c .before .before .before .before .before .before .before .before .write-block2 .ensures) (c .before .before .before .write-list .ensures)
 
   write-list-same-length-2 : write-list-lts.Need-same-length-2 write-list-calls write-list-at write-list.Post
-  write-list-same-length-2 c = placed-length (c .before .before .before .before .before .before .before .before .before .before .before .before .before .before .before .before .before .before .before .before .pre .1 .1 .1) (write-list-returns-2 c)
+  write-list-same-length-2 c = placed-length (c .before .before .before .before .before .before .before .before .before .before .before .before .before .before .before .before .before .before .before .before .pre .1 .1 .1 .0) (write-list-returns-2 c)
 
   abbrev record-start : write-record-lts.After-form-of write-record-calls write-record-at write-record.Post → write-record-lts.Start write-record-calls write-record-at write-record.Post
   record-start c = c .before .before .before .before .before .before
 
   -- what the record's form says
   bits-here : (c : write-record-lts.After-j write-record-calls write-record-at write-record.Post) → BitsTold (c .j .given .0 .0) (c .j .given .0 .1 .0) (record-start (c .before .before) .args .level) (record-start (c .before .before) .args .ty .now) (record-start (c .before .before) .args .val .now) (record-start (c .before .before) .args .at) (record-start (c .before .before) .args .v)
-  bits-here c = as-bits (record-start (c .before .before) .pre .1 .0) (record-start (c .before .before) .pre .1 .1 .told) (c .before .before .before .head-at .ensures .0) (c .before .before .before .head-at .ensures .1) (c .before .before .form-of .ensures) (c .j .given .1)
+  bits-here c = as-bits (record-start (c .before .before) .pre .1 .0) (record-start (c .before .before) .pre .1 .1 .0 .told) (c .before .before .before .head-at .ensures .0) (c .before .before .before .head-at .ensures .1) (c .before .before .form-of .ensures) (c .j .given .1)
 
   product-here : (c : write-record-lts.After-parts write-record-calls write-record-at write-record.Post) → ProductTold (c .parts .given .0 .0) (c .parts .given .0 .1 .0) (record-start (c .before .before) .args .level) (record-start (c .before .before) .args .ty .now) (record-start (c .before .before) .args .ends .now) (record-start (c .before .before) .args .val .now) (record-start (c .before .before) .args .at) (record-start (c .before .before) .args .v)
-  product-here c = as-product (record-start (c .before .before) .pre .1 .0) (record-start (c .before .before) .pre .1 .1 .told) (c .before .before .before .head-at .ensures .0) (c .before .before .before .head-at .ensures .1) (c .before .before .form-of .ensures) (c .parts .given .1)
+  product-here c = as-product (record-start (c .before .before) .pre .1 .0) (record-start (c .before .before) .pre .1 .1 .0 .told) (c .before .before .before .head-at .ensures .0) (c .before .before .before .head-at .ensures .1) (c .before .before .form-of .ensures) (c .parts .given .1)
 
   sum-here : (c : write-record-lts.After-n write-record-calls write-record-at write-record.Post) → SumTold (c .n .given .0 .0) (c .n .given .0 .1 .0) (record-start (c .before .before) .args .level) (record-start (c .before .before) .args .ty .now) (record-start (c .before .before) .args .ends .now) (record-start (c .before .before) .args .val .now) (record-start (c .before .before) .args .at) (record-start (c .before .before) .args .v)
-  sum-here c = as-sum (record-start (c .before .before) .pre .1 .0) (record-start (c .before .before) .pre .1 .1 .told) (c .before .before .before .head-at .ensures .0) (c .before .before .before .head-at .ensures .1) (c .before .before .form-of .ensures) (c .n .given .1)
+  sum-here c = as-sum (record-start (c .before .before) .pre .1 .0) (record-start (c .before .before) .pre .1 .1 .0 .told) (c .before .before .before .head-at .ensures .0) (c .before .before .before .head-at .ensures .1) (c .before .before .form-of .ensures) (c .n .given .1)
 
   list-here : (c : write-record-lts.After-bound write-record-calls write-record-at write-record.Post) → ListTold (c .bound .given .0 .0) (c .bound .given .0 .1 .0) (record-start (c .before .before) .args .level) (record-start (c .before .before) .args .ty .now) (record-start (c .before .before) .args .ends .now) (record-start (c .before .before) .args .val .now) (record-start (c .before .before) .args .at) (record-start (c .before .before) .args .v)
-  list-here c = as-list (record-start (c .before .before) .pre .1 .0) (record-start (c .before .before) .pre .1 .1 .told) (c .before .before .before .head-at .ensures .0) (c .before .before .before .head-at .ensures .1) (c .before .before .form-of .ensures) (c .bound .given .1)
+  list-here c = as-list (record-start (c .before .before) .pre .1 .0) (record-start (c .before .before) .pre .1 .1 .0 .told) (c .before .before .before .head-at .ensures .0) (c .before .before .before .head-at .ensures .1) (c .before .before .form-of .ensures) (c .bound .given .1)
 
   payload-here : (c : write-record-lts.After-n2 write-record-calls write-record-at write-record.Post) → PayloadTold (c .n2 .given .0 .0) (record-start (c .before .before) .args .level) (record-start (c .before .before) .args .ty .now) (record-start (c .before .before) .args .ends .now) (record-start (c .before .before) .args .val .now) (record-start (c .before .before) .args .at) (record-start (c .before .before) .args .v)
-  payload-here c = as-payload (record-start (c .before .before) .pre .1 .0) (record-start (c .before .before) .pre .1 .1 .told) (c .before .before .before .head-at .ensures .0) (c .before .before .before .head-at .ensures .1) (c .before .before .form-of .ensures) (c .n2 .given .1)
+  payload-here c = as-payload (record-start (c .before .before) .pre .1 .0) (record-start (c .before .before) .pre .1 .1 .0 .told) (c .before .before .before .head-at .ensures .0) (c .before .before .before .head-at .ensures .1) (c .before .before .form-of .ensures) (c .n2 .given .1)
 
   write-record-form-of-requires : write-record-lts.Need-form-of-requires write-record-calls write-record-at write-record.Post
-  write-record-form-of-requires c κs = readable _ _ _ _ _ _ _ _ (c .before .before .before .before .before .pre .1 .0) (c .before .before .before .before .before .pre .1 .1 .told) (c .head-at .ensures .0) (c .head-at .ensures .1)
+  write-record-form-of-requires c κs = readable _ _ _ _ _ _ _ _ (c .before .before .before .before .before .pre .1 .0) (c .before .before .before .before .before .pre .1 .1 .0 .told) (c .head-at .ensures .0) (c .head-at .ensures .1)
 
-  write-record-add-t23 : write-record-lts.Need-add-t23 write-record-calls write-record-at write-record.Post
-  write-record-add-t23 c = let i = bits-here (c .before) .there in search steps
+  write-record-add-t24 : write-record-lts.Need-add-t24 write-record-calls write-record-at write-record.Post
+  write-record-add-t24 c = let i = bits-here (c .before) .there in search steps
 
   write-record-write-bits-requires : write-record-lts.Need-write-bits-requires write-record-calls write-record-at write-record.Post
   write-record-write-bits-requires c κs =
       let i = bits-here (c .before .before) in
-      (record { some-bits = i .some-bits; few = i .few; inside = i .inside; there = i .there }, ready-room (c .before .before .before .before .before .before .before .before .before .before .pre .1 .1) (i .same))
+      (record { some-bits = i .some-bits; few = i .few; inside = i .inside; there = i .there }, (ready-room (c .before .before .before .before .before .before .before .before .before .before .pre .1 .1 .0) (i .same), search needs))
 
   write-record-add-write-tree-2 : write-record-lts.Need-add-write-tree-2 write-record-calls write-record-at write-record.Post
   write-record-add-write-tree-2 c = let i = product-here (c .before) .there in search steps
@@ -268,7 +268,7 @@ module _ (t : ℕ) where
       let i = product-here (c .before .before) in
       let l = level-some (c .before .before .before .before .before .before .before .before .before .before .pre .1 .0) in
       let f = i .few in
-      (omega arith, (f, (i .given, ready-as (i .same) (c .before .before .before .before .before .before .before .before .before .before .pre .1 .1))))
+      (omega arith, (f, (i .given, (ready-as (i .same) (c .before .before .before .before .before .before .before .before .before .before .pre .1 .1 .0), search needs))))
 
   write-record-hop-requires : write-record-lts.Need-hop-requires write-record-calls write-record-at write-record.Post
   write-record-hop-requires c κs = sum-here (c .before) .hopped
@@ -282,7 +282,7 @@ module _ (t : ℕ) where
       let l = level-some (c .before .before .before .before .before .before .before .before .before .before .before .pre .1 .0) in
       let f = i .few in
       let h = c .before .hop .ensures in
-      (omega arith, ((i .less, f), (rw h (i .given), rw h (ready-as (i .same) (c .before .before .before .before .before .before .before .before .before .before .before .pre .1 .1)))))
+      (omega arith, ((i .less, f), (rw h (i .given), (rw h (ready-as (i .same) (c .before .before .before .before .before .before .before .before .before .before .before .pre .1 .1 .0)), search needs))))
 
   write-record-add-write-list-2 : write-record-lts.Need-add-write-list-2 write-record-calls write-record-at write-record.Post
   write-record-add-write-list-2 c = let i = list-here (c .before) .there in search steps
@@ -292,44 +292,44 @@ module _ (t : ℕ) where
       let i = list-here (c .before .before) in
       let l = level-some (c .before .before .before .before .before .before .before .before .before .before .pre .1 .0) in
       let m = bound-small (i .fair) in
-      (omega arith, ((i .fair, i .less), (i .given, ready-as (i .same) (c .before .before .before .before .before .before .before .before .before .before .pre .1 .1))))
+      (omega arith, ((i .fair, i .less), (i .given, (ready-as (i .same) (c .before .before .before .before .before .before .before .before .before .before .pre .1 .1 .0), search needs))))
 
   write-record-write-tree-requires-2 : write-record-lts.Need-write-tree-requires-2 write-record-calls write-record-at write-record.Post
   write-record-write-tree-requires-2 c κs =
       let i = payload-here (c .before .before) in
       let l = level-some (c .before .before .before .before .before .before .before .before .before .before .pre .1 .0) in
       let f = i .few in
-      (omega arith, (f, (i .given, ready-as (i .same) (c .before .before .before .before .before .before .before .before .before .before .pre .1 .1))))
+      (omega arith, (f, (i .given, (ready-as (i .same) (c .before .before .before .before .before .before .before .before .before .before .pre .1 .1 .0), search needs))))
 
   write-record-returns : write-record-lts.Need-returns write-record-calls write-record-at write-record.Post
   write-record-returns c = record { shape = _; told = bits-here (c .before .before .before .before .before) .same; wrote = c .before .before .write-bits .ensures }
 
   write-record-same-length : write-record-lts.Need-same-length write-record-calls write-record-at write-record.Post
-  write-record-same-length c = placed-length (c .before .before .before .before .before .before .before .before .before .before .before .before .before .pre .1 .1) (write-record-returns c)
+  write-record-same-length c = placed-length (c .before .before .before .before .before .before .before .before .before .before .before .before .before .pre .1 .1 .0) (write-record-returns c)
 
   write-record-returns-2 : write-record-lts.Need-returns-2 write-record-calls write-record-at write-record.Post
   write-record-returns-2 c = placed-as (product-here (c .before .before .before .before .before) .same) (c .before .before .write-tree .ensures .0)
 
   write-record-same-length-2 : write-record-lts.Need-same-length-2 write-record-calls write-record-at write-record.Post
-  write-record-same-length-2 c = placed-length (c .before .before .before .before .before .before .before .before .before .before .before .before .before .pre .1 .1) (write-record-returns-2 c)
+  write-record-same-length-2 c = placed-length (c .before .before .before .before .before .before .before .before .before .before .before .before .before .pre .1 .1 .0) (write-record-returns-2 c)
 
   write-record-returns-3 : write-record-lts.Need-returns-3 write-record-calls write-record-at write-record.Post
   write-record-returns-3 c = placed-as (sum-here (c .before .before .before .before .before .before) .same) (rw (← c .before .before .before .before .hop .ensures) (c .before .before .write-sum .ensures))
 
   write-record-same-length-3 : write-record-lts.Need-same-length-3 write-record-calls write-record-at write-record.Post
-  write-record-same-length-3 c = placed-length (c .before .before .before .before .before .before .before .before .before .before .before .before .before .before .pre .1 .1) (write-record-returns-3 c)
+  write-record-same-length-3 c = placed-length (c .before .before .before .before .before .before .before .before .before .before .before .before .before .before .pre .1 .1 .0) (write-record-returns-3 c)
 
   write-record-returns-4 : write-record-lts.Need-returns-4 write-record-calls write-record-at write-record.Post
   write-record-returns-4 c = placed-as (list-here (c .before .before .before .before .before) .same) (c .before .before .write-list .ensures)
 
   write-record-same-length-4 : write-record-lts.Need-same-length-4 write-record-calls write-record-at write-record.Post
-  write-record-same-length-4 c = placed-length (c .before .before .before .before .before .before .before .before .before .before .before .before .before .pre .1 .1) (write-record-returns-4 c)
+  write-record-same-length-4 c = placed-length (c .before .before .before .before .before .before .before .before .before .before .before .before .before .pre .1 .1 .0) (write-record-returns-4 c)
 
   write-record-returns-5 : write-record-lts.Need-returns-5 write-record-calls write-record-at write-record.Post
   write-record-returns-5 c = placed-as (payload-here (c .before .before .before .before .before) .same) (c .before .before .write-tree2 .ensures .0)
 
   write-record-same-length-5 : write-record-lts.Need-same-length-5 write-record-calls write-record-at write-record.Post
-  write-record-same-length-5 c = placed-length (c .before .before .before .before .before .before .before .before .before .before .before .before .before .pre .1 .1) (write-record-returns-5 c)
+  write-record-same-length-5 c = placed-length (c .before .before .before .before .before .before .before .before .before .before .before .before .before .pre .1 .1 .0) (write-record-returns-5 c)
 
   abbrev sum-start : write-sum-lts.After-btree-split-index write-sum-calls write-sum-at write-sum.Post → write-sum-lts.Start write-sum-calls write-sum-at write-sum.Post
   sum-start c = c .before .before .before .before .before .before
@@ -345,25 +345,25 @@ module _ (t : ℕ) where
 
   -- what is written of a choice on the left side, and of one on the right side
   on-left : (c : write-sum-lts.Then2 write-sum-calls write-sum-at write-sum.Post) → Stem 1 (sum-told (sum-start (c .before)) (sum-start (c .before) .args .n) (sum-start (c .before) .args .i)) (sum-told (sum-start (c .before)) (c .before .btree-split-index .result) (sum-start (c .before) .args .i)) (sum-start (c .before) .args .out .now)
-  on-left c = sum-left _ _ _ _ _ _ _ _ _ (c .before .btree-split-index .ensures) (two-choices (c .before .before)) (sum-start (c .before) .pre .1 .1 .1) (c .if2 .taken)
+  on-left c = sum-left _ _ _ _ _ _ _ _ _ (c .before .btree-split-index .ensures) (two-choices (c .before .before)) (sum-start (c .before) .pre .1 .1 .1 .0) (c .if2 .taken)
 
   on-right : (c : write-sum-lts.Else2 write-sum-calls write-sum-at write-sum.Post) → Stem 2 (sum-told (sum-start (c .before)) (sum-start (c .before) .args .n) (sum-start (c .before) .args .i)) (sum-told (sum-start (c .before)) (sum-start (c .before) .args .n - c .before .btree-split-index .result) (sum-start (c .before) .args .i - c .before .btree-split-index .result)) (sum-start (c .before) .args .out .now)
-  on-right c = sum-right _ _ _ _ _ _ _ _ _ (c .before .btree-split-index .ensures) (two-choices (c .before .before)) (sum-start (c .before) .pre .1 .1 .1) (c .if2 .left)
+  on-right c = sum-right _ _ _ _ _ _ _ _ _ (c .before .btree-split-index .ensures) (two-choices (c .before .before)) (sum-start (c .before) .pre .1 .1 .1 .0) (c .if2 .left)
 
   write-sum-write-record-requires : write-sum-lts.Need-write-record-requires write-sum-calls write-sum-at write-sum.Post
   write-sum-write-record-requires c κs =
       let g = c .before .before .before .before .before .before .pre .1 in
       let l = g .0 .0 in
-      (omega arith, (g .1 .0, ready-as (only-is _ _ _ _ _ _ _ (c .before .if1 .taken)) (g .1 .1)))
+      (omega arith, (g .1 .0, (ready-as (only-is _ _ _ _ _ _ _ (c .before .if1 .taken)) (g .1 .1 .0), search needs)))
 
   write-sum-returns : write-sum-lts.Need-returns write-sum-calls write-sum-at write-sum.Post
   write-sum-returns c = placed-as (only-is _ _ _ _ _ _ _ (c .before .before .before .before .if1 .taken)) (c .before .before .write-record .ensures)
 
   write-sum-same-length : write-sum-lts.Need-same-length write-sum-calls write-sum-at write-sum.Post
-  write-sum-same-length c = placed-length (c .before .before .before .before .before .before .before .before .before .pre .1 .1 .1) (write-sum-returns c)
+  write-sum-same-length c = placed-length (c .before .before .before .before .before .before .before .before .before .pre .1 .1 .1 .0) (write-sum-returns c)
 
   write-sum-btree-split-index-requires : write-sum-lts.Need-btree-split-index-requires write-sum-calls write-sum-at write-sum.Post
-  write-sum-btree-split-index-requires c κs = (two-choices c, c .before .before .before .before .before .pre .1 .0 .1)
+  write-sum-btree-split-index-requires c κs = ((two-choices c, c .before .before .before .before .before .pre .1 .0 .1), search needs)
 
   write-sum-sub-write-sum : write-sum-lts.Need-sub-write-sum write-sum-calls write-sum-at write-sum.Post
   write-sum-sub-write-sum c = stem-start (on-left c)
@@ -375,16 +375,16 @@ module _ (t : ℕ) where
   write-sum-write-sum-requires c κs =
       let h = choice-shares (c .before .before) in
       let g = c .before .before .before .before .before .before .before .before .pre .1 .0 .1 in
-      (omega arith, ((c .before .if2 .taken, omega arith), (c .before .before .before .before .before .before .before .before .pre .1 .1 .0, stem-ready (on-left (c .before)))))
+      (omega arith, ((c .before .if2 .taken, omega arith), (c .before .before .before .before .before .before .before .before .pre .1 .1 .0, (stem-ready (on-left (c .before)), search needs))))
 
-  write-sum-add-t19 : write-sum-lts.Need-add-t19 write-sum-calls write-sum-at write-sum.Post
-  write-sum-add-t19 c = omega (arith, stem-small (on-left (c .before .before .before .before .before)) (c .before .before .before .write-sum .ensures))
+  write-sum-add-t20 : write-sum-lts.Need-add-t20 write-sum-calls write-sum-at write-sum.Post
+  write-sum-add-t20 c = omega (arith, stem-small (on-left (c .before .before .before .before .before)) (c .before .before .before .write-sum .ensures))
 
   write-sum-returns-2 : write-sum-lts.Need-returns-2 write-sum-calls write-sum-at write-sum.Post
   write-sum-returns-2 c = stem-done (on-left (c .before .before .before .before .before)) (c .before .before .before .write-sum .ensures)
 
   write-sum-same-length-2 : write-sum-lts.Need-same-length-2 write-sum-calls write-sum-at write-sum.Post
-  write-sum-same-length-2 c = placed-length (c .before .before .before .before .before .before .before .before .before .before .before .before .pre .1 .1 .1) (write-sum-returns-2 c)
+  write-sum-same-length-2 c = placed-length (c .before .before .before .before .before .before .before .before .before .before .before .before .pre .1 .1 .1 .0) (write-sum-returns-2 c)
 
   write-sum-sub-others : write-sum-lts.Need-sub-others write-sum-calls write-sum-at write-sum.Post
   write-sum-sub-others c = let h = choice-shares (c .before) in omega arith
@@ -399,16 +399,16 @@ module _ (t : ℕ) where
   write-sum-write-sum-requires-2 c κs =
       let h = choice-shares (c .before .before) in
       let g = c .before .before .before .before .before .before .before .before .pre .1 .0 in
-      (omega arith, ((omega arith, omega arith), (c .before .before .before .before .before .before .before .before .pre .1 .1 .0, stem-ready (on-right (c .before)))))
+      (omega arith, ((omega arith, omega arith), (c .before .before .before .before .before .before .before .before .pre .1 .1 .0, (stem-ready (on-right (c .before)), search needs))))
 
-  write-sum-add-t23 : write-sum-lts.Need-add-t23 write-sum-calls write-sum-at write-sum.Post
-  write-sum-add-t23 c = omega (arith, stem-small (on-right (c .before .before .before .before .before)) (c .before .before .before .write-sum2 .ensures))
+  write-sum-add-t24 : write-sum-lts.Need-add-t24 write-sum-calls write-sum-at write-sum.Post
+  write-sum-add-t24 c = omega (arith, stem-small (on-right (c .before .before .before .before .before)) (c .before .before .before .write-sum2 .ensures))
 
   write-sum-returns-3 : write-sum-lts.Need-returns-3 write-sum-calls write-sum-at write-sum.Post
   write-sum-returns-3 c = stem-done (on-right (c .before .before .before .before .before)) (c .before .before .before .write-sum2 .ensures)
 
   write-sum-same-length-3 : write-sum-lts.Need-same-length-3 write-sum-calls write-sum-at write-sum.Post
-  write-sum-same-length-3 c = placed-length (c .before .before .before .before .before .before .before .before .before .before .before .before .pre .1 .1 .1) (write-sum-returns-3 c)
+  write-sum-same-length-3 c = placed-length (c .before .before .before .before .before .before .before .before .before .before .before .before .pre .1 .1 .1 .0) (write-sum-returns-3 c)
 
   abbrev tree-start : write-tree-lts.After-btree-split-index write-tree-calls write-tree-at write-tree.Post → write-tree-lts.Start write-tree-calls write-tree-at write-tree.Post
   tree-start c = c .before .before .before .before .before .before .before
@@ -422,22 +422,22 @@ module _ (t : ℕ) where
   -- what is written of the tree, with the right side's parts from q on
   sides : (c : write-tree-lts.After-btree-split-index write-tree-calls write-tree-at write-tree.Post) (q : ℕ) → q ≡ skip (tree-start c .args .parts) (tree-start c .args .level) (tree-start c .args .ty .now) (c .btree-split-index .result) (tree-start c .args .at)
       → Pair (tree-told (tree-start c) (tree-start c .args .n) (tree-start c .args .at) (tree-start c .args .v)) (tree-told (tree-start c) (c .btree-split-index .result) (tree-start c .args .at) (tree-start c .args .v)) (tree-told (tree-start c) (tree-start c .args .n - c .btree-split-index .result) q) (tree-start c .args .out .now)
-  sides c q e = tree-pair _ _ _ _ _ _ _ _ _ _ (c .btree-split-index .ensures) (c .before .before .if1 .left) (c .before .if2 .left) e (tree-start c .pre .1 .1 .1)
+  sides c q e = tree-pair _ _ _ _ _ _ _ _ _ _ (c .btree-split-index .ensures) (c .before .before .if1 .left) (c .before .if2 .left) e (tree-start c .pre .1 .1 .1 .0)
 
   write-tree-write-unit-requires : write-tree-lts.Need-write-unit-requires write-tree-calls write-tree-at write-tree.Post
-  write-tree-write-unit-requires c κs = ready-room (c .before .before .before .before .before .before .pre .1 .1 .1) (none-is _ _ _ _ _ _ _ (c .before .if1 .taken))
+  write-tree-write-unit-requires c κs = ready-room (c .before .before .before .before .before .before .pre .1 .1 .1 .0) (none-is _ _ _ _ _ _ _ (c .before .if1 .taken))
 
   write-tree-returns : write-tree-lts.Need-returns write-tree-calls write-tree-at write-tree.Post
   write-tree-returns c = (record { shape = unit; told = none-is _ _ _ _ _ _ _ (c .before .before .before .before .if1 .taken); wrote = c .before .before .write-unit .ensures }, skip-none _ _ _ _ _ (c .before .before .before .before .if1 .taken))
 
   write-tree-same-length : write-tree-lts.Need-same-length write-tree-calls write-tree-at write-tree.Post
-  write-tree-same-length c = placed-length (c .before .before .before .before .before .before .before .before .before .pre .1 .1 .1) (write-tree-returns c .0)
+  write-tree-same-length c = placed-length (c .before .before .before .before .before .before .before .before .before .pre .1 .1 .1 .0) (write-tree-returns c .0)
 
   write-tree-write-record-requires : write-tree-lts.Need-write-record-requires write-tree-calls write-tree-at write-tree.Post
   write-tree-write-record-requires c κs =
       let g = c .before .before .before .before .before .before .before .pre .1 in
       let z = c .before .if2 .taken in
-      (omega arith, (one-given (g .1 .0) z, ready-as (one-is _ _ _ _ _ _ _ z) (g .1 .1)))
+      (omega arith, (one-given (g .1 .0) z, (ready-as (one-is _ _ _ _ _ _ _ z) (g .1 .1 .0), search needs)))
 
   write-tree-after-part-requires : write-tree-lts.Need-after-part-requires write-tree-calls write-tree-at write-tree.Post
   write-tree-after-part-requires c κs = stands-inside (one-given (c .before .before .before .before .before .before .before .before .before .before .pre .1 .1 .0) (c .before .before .before .before .if2 .taken))
@@ -448,13 +448,13 @@ module _ (t : ℕ) where
       (placed-as (one-is _ _ _ _ _ _ _ z) (c .before .before .before .write-record .ensures), skip-one _ _ z (one-given (c .before .before .before .before .before .before .before .before .before .before .before .pre .1 .1 .0) z) (c .after-part .ensures))
 
   write-tree-same-length-2 : write-tree-lts.Need-same-length-2 write-tree-calls write-tree-at write-tree.Post
-  write-tree-same-length-2 c = placed-length (c .before .before .before .before .before .before .before .before .before .before .before .pre .1 .1 .1) (write-tree-returns-2 c .0)
+  write-tree-same-length-2 c = placed-length (c .before .before .before .before .before .before .before .before .before .before .before .pre .1 .1 .1 .0) (write-tree-returns-2 c .0)
 
   write-tree-btree-split-index-requires : write-tree-lts.Need-btree-split-index-requires write-tree-calls write-tree-at write-tree.Post
   write-tree-btree-split-index-requires c κs =
       let z = c .before .if1 .left in
       let o = c .if2 .left in
-      (omega arith, c .before .before .before .before .before .before .pre .1 .0)
+      ((omega arith, c .before .before .before .before .before .before .pre .1 .0), search needs)
 
   write-tree-sub-others : write-tree-lts.Need-sub-others write-tree-calls write-tree-at write-tree.Post
   write-tree-sub-others c = let h = split c in omega arith
@@ -469,7 +469,7 @@ module _ (t : ℕ) where
   write-tree-write-tree-requires c κs =
       let h = split (c .before) in
       let g = c .before .before .before .before .before .before .before .before .pre .1 in
-      (omega arith, (omega arith, (left-given h (g .1 .0), left-ready (sides (c .before) _ refl))))
+      (omega arith, (omega arith, (left-given h (g .1 .0), (left-ready (sides (c .before) _ refl), search needs))))
 
   write-tree-add-k : write-tree-lts.Need-add-k write-tree-calls write-tree-at write-tree.Post
   write-tree-add-k c = omega (arith, pair-small (sides (c .before .before .before .before .before) _ refl) (c .before .before .before .write-tree .ensures .0))
@@ -485,10 +485,10 @@ module _ (t : ℕ) where
       let h = split (c .before .before .before .before .before .before) in
       let g = c .before .before .before .before .before .before .before .before .before .before .before .before .before .pre .1 in
       let w = c .before .before .before .before .write-tree .ensures in
-      (omega arith, (omega arith, (right-given h (g .1 .0) (w .1), right-ready (sides (c .before .before .before .before .before .before) _ (w .1)) (w .0))))
+      (omega arith, (omega arith, (right-given h (g .1 .0) (w .1), (right-ready (sides (c .before .before .before .before .before .before) _ (w .1)) (w .0), search needs))))
 
-  write-tree-add-t25 : write-tree-lts.Need-add-t25 write-tree-calls write-tree-at write-tree.Post
-  write-tree-add-t25 c = let g = c .before .before .before .before .before .before .before .before .before .before .before .before .before .before .before .before .before .good in omega (arith, pair-total (sides (c .before .before .before .before .before .before .before .before .before .before) _ (c .before .before .before .before .before .before .before .before .write-tree .ensures .1)) (c .before .before .before .before .before .before .before .before .write-tree .ensures .0) (c .before .before .before .write-tree2 .ensures .0))
+  write-tree-add-t26 : write-tree-lts.Need-add-t26 write-tree-calls write-tree-at write-tree.Post
+  write-tree-add-t26 c = let g = c .before .before .before .before .before .before .before .before .before .before .before .before .before .before .before .before .before .good in omega (arith, pair-total (sides (c .before .before .before .before .before .before .before .before .before .before) _ (c .before .before .before .before .before .before .before .before .write-tree .ensures .1)) (c .before .before .before .before .before .before .before .before .write-tree .ensures .0) (c .before .before .before .write-tree2 .ensures .0))
 
   write-tree-returns-3 : write-tree-lts.Need-returns-3 write-tree-calls write-tree-at write-tree.Post
   write-tree-returns-3 c =
@@ -497,13 +497,13 @@ module _ (t : ℕ) where
       (pair-done (sides (c .before .before .before .before .before .before .before .before .before .before) _ (w .1)) (w .0) (u .0), skip-sides (split (c .before .before .before .before .before .before .before .before .before .before)) _ _ _ _ (w .1) (u .1))
 
   write-tree-same-length-3 : write-tree-lts.Need-same-length-3 write-tree-calls write-tree-at write-tree.Post
-  write-tree-same-length-3 c = placed-length (c .before .before .before .before .before .before .before .before .before .before .before .before .before .before .before .before .before .pre .1 .1 .1) (write-tree-returns-3 c .0)
+  write-tree-same-length-3 c = placed-length (c .before .before .before .before .before .before .before .before .before .before .before .before .before .before .before .before .before .pre .1 .1 .1 .0) (write-tree-returns-3 c .0)
 
 pub +write-block+write-list+write-record+write-sum+write-tree-spec : {M : Type 1} → statement M
 +write-block+write-list+write-record+write-sum+write-tree-spec =
     close μ-write-block μ-write-list μ-write-record μ-write-sum μ-write-tree
-    (λ t. write-block-lts.spec (write-block-calls t) (write-block-at t) write-block.Post (λ c. search steps) (write-block-slice-write-out-2 t) (write-block-same-length t) (write-block-returns t) (λ c. search steps) (write-block-sub-write-tree t) (write-block-part-write-tree-start t) (λ c. search steps) (write-block-write-tree-requires t) (write-block-add-t16 t) (write-block-same-length-2 t) (write-block-returns-2 t))
-    (λ t. write-list-lts.spec (write-list-calls t) (write-list-at t) write-list.Post (λ c κs. search steps) (λ c. search steps) (write-list-write-block-requires t) (λ c. search steps) (λ c. search steps) (λ c κs. search steps) (λ c κs. search steps) (write-list-sub-write-block t) (write-list-part-write-block-start t) (λ c. search steps) (write-list-write-block-requires-2 t) (write-list-add-k t) (write-list-sub-others t) (write-list-sub-write-list t) (write-list-part-write-list-start t) (λ c. search steps) (write-list-write-list-requires t) (write-list-add-t21 t) (write-list-same-length t) (write-list-returns t) (write-list-same-length-2 t) (write-list-returns-2 t))
-    (λ t. write-record-lts.spec (write-record-calls t) (write-record-at t) write-record.Post (λ c κs. search steps) (write-record-form-of-requires t) (λ c. search steps) (write-record-add-t23 t) (write-record-write-bits-requires t) (λ c. search steps) (λ c. search steps) (λ c. search steps) (write-record-add-write-tree-2 t) (write-record-write-tree-requires t) (λ c. search steps) (λ c. search steps) (write-record-hop-requires t) (λ c. search steps) (write-record-add-write-sum t) (write-record-write-sum-requires t) (λ c. search steps) (λ c. search steps) (λ c. search steps) (write-record-add-write-list-2 t) (write-record-write-list-requires t) (λ c. search steps) (λ c. search steps) (λ c. search steps) (write-record-write-tree-requires-2 t) (write-record-same-length t) (write-record-returns t) (write-record-same-length-2 t) (write-record-returns-2 t) (write-record-same-length-3 t) (write-record-returns-3 t) (write-record-same-length-4 t) (write-record-returns-4 t) (write-record-same-length-5 t) (write-record-returns-5 t))
-    (λ t. write-sum-lts.spec (write-sum-calls t) (write-sum-at t) write-sum.Post (write-sum-write-record-requires t) (write-sum-same-length t) (write-sum-returns t) (write-sum-btree-split-index-requires t) (λ c. search steps) (write-sum-sub-write-sum t) (write-sum-part-write-sum-start t) (λ c. search steps) (write-sum-write-sum-requires t) (write-sum-add-t19 t) (write-sum-same-length-2 t) (write-sum-returns-2 t) (λ c. search steps) (write-sum-sub-others t) (write-sum-sub-write-sum-2 t) (write-sum-part-write-sum-start-2 t) (λ c. search steps) (write-sum-write-sum-requires-2 t) (write-sum-add-t23 t) (write-sum-same-length-3 t) (write-sum-returns-3 t))
-    (λ t. write-tree-lts.spec (write-tree-calls t) (write-tree-at t) write-tree.Post (write-tree-write-unit-requires t) (write-tree-same-length t) (write-tree-returns t) (write-tree-write-record-requires t) (write-tree-after-part-requires t) (write-tree-same-length-2 t) (write-tree-returns-2 t) (λ c. search steps) (write-tree-btree-split-index-requires t) (write-tree-sub-others t) (write-tree-sub-write-tree t) (write-tree-part-write-tree-start t) (λ c. search steps) (write-tree-write-tree-requires t) (write-tree-add-k t) (write-tree-sub-write-tree-2 t) (write-tree-part-write-tree-start-2 t) (λ c. search steps) (write-tree-write-tree-requires-2 t) (write-tree-add-t25 t) (write-tree-same-length-3 t) (write-tree-returns-3 t))
+    (λ t. write-block-lts.spec (write-block-calls t) (write-block-at t) write-block.Post (λ c. search steps) (write-block-slice-write-out-2 t) (write-block-same-length t) (write-block-returns t) (λ c. search steps) (write-block-sub-write-tree t) (write-block-part-write-tree-start t) (λ c. search steps) (write-block-write-tree-requires t) (write-block-add-t17 t) (write-block-same-length-2 t) (write-block-returns-2 t))
+    (λ t. write-list-lts.spec (write-list-calls t) (write-list-at t) write-list.Post (λ c κs. search steps) (λ c. search steps) (write-list-write-block-requires t) (λ c. search steps) (λ c. search steps) (λ c κs. search steps) (λ c κs. search steps) (write-list-sub-write-block t) (write-list-part-write-block-start t) (λ c. search steps) (write-list-write-block-requires-2 t) (write-list-add-k t) (write-list-sub-others t) (write-list-sub-write-list t) (write-list-part-write-list-start t) (λ c. search steps) (write-list-write-list-requires t) (write-list-add-t22 t) (write-list-same-length t) (write-list-returns t) (write-list-same-length-2 t) (write-list-returns-2 t))
+    (λ t. write-record-lts.spec (write-record-calls t) (write-record-at t) write-record.Post (λ c κs. search steps) (write-record-form-of-requires t) (λ c. search steps) (write-record-add-t24 t) (write-record-write-bits-requires t) (λ c. search steps) (λ c. search steps) (λ c. search steps) (write-record-add-write-tree-2 t) (write-record-write-tree-requires t) (λ c. search steps) (λ c. search steps) (write-record-hop-requires t) (λ c. search steps) (write-record-add-write-sum t) (write-record-write-sum-requires t) (λ c. search steps) (λ c. search steps) (λ c. search steps) (write-record-add-write-list-2 t) (write-record-write-list-requires t) (λ c. search steps) (λ c. search steps) (λ c. search steps) (write-record-write-tree-requires-2 t) (write-record-same-length t) (write-record-returns t) (write-record-same-length-2 t) (write-record-returns-2 t) (write-record-same-length-3 t) (write-record-returns-3 t) (write-record-same-length-4 t) (write-record-returns-4 t) (write-record-same-length-5 t) (write-record-returns-5 t))
+    (λ t. write-sum-lts.spec (write-sum-calls t) (write-sum-at t) write-sum.Post (write-sum-write-record-requires t) (write-sum-same-length t) (write-sum-returns t) (write-sum-btree-split-index-requires t) (λ c. search steps) (write-sum-sub-write-sum t) (write-sum-part-write-sum-start t) (λ c. search steps) (write-sum-write-sum-requires t) (write-sum-add-t20 t) (write-sum-same-length-2 t) (write-sum-returns-2 t) (λ c. search steps) (write-sum-sub-others t) (write-sum-sub-write-sum-2 t) (write-sum-part-write-sum-start-2 t) (λ c. search steps) (write-sum-write-sum-requires-2 t) (write-sum-add-t24 t) (write-sum-same-length-3 t) (write-sum-returns-3 t))
+    (λ t. write-tree-lts.spec (write-tree-calls t) (write-tree-at t) write-tree.Post (write-tree-write-unit-requires t) (write-tree-same-length t) (write-tree-returns t) (write-tree-write-record-requires t) (write-tree-after-part-requires t) (write-tree-same-length-2 t) (write-tree-returns-2 t) (λ c. search steps) (write-tree-btree-split-index-requires t) (write-tree-sub-others t) (write-tree-sub-write-tree t) (write-tree-part-write-tree-start t) (λ c. search steps) (write-tree-write-tree-requires t) (write-tree-add-k t) (write-tree-sub-write-tree-2 t) (write-tree-part-write-tree-start-2 t) (λ c. search steps) (write-tree-write-tree-requires-2 t) (write-tree-add-t26 t) (write-tree-same-length-3 t) (write-tree-returns-3 t))

@@ -19,7 +19,7 @@ unfolding copies typeOf reading
 whole sh g = sym (ap (λ (r : Copier). r 0) (standing-is g (copier sh)))
 
 copy-record-requires : tie.Need-copy-record-requires
-copy-record-requires c κs = let g = c .before .before .before .before .before .pre in (stands (g .0), ready-as (whole _ (g .0)) (g .1))
+copy-record-requires c κs = let g = c .before .before .before .before .before .pre in (stands (g .0), (ready-as (whole _ (g .0)) (g .1 .0), g .1 .1))
 
 returns : tie.Need-returns
 returns c = record { next = _; placed = placed-as (whole _ (c .before .before .before .before .before .before .before .before .pre .0)) (c .before .before .copy-record .ensures) }

@@ -8,7 +8,7 @@ use Rattle.structural.proofs.write_lowered.Statement.{statement}
 use Rattle.structural.proofs.write_lowered.Tie as tie
 
 asked : tie.Need-write-record-requires
-asked c κs = let g = c .before .before .before .before .pre in (stands (g .0), rw (standing-is (g .0)) (g .1))
+asked c κs = let g = c .before .before .before .before .pre in (stands (g .0), (rw (standing-is (g .0)) (g .1 .0), search needs))
 
 returns : tie.Need-returns
 returns c = wrote-as (ap type-records (sym (standing-is (c .before .before .before .before .before .before .before .pre .0)))) (c .before .before .write-record .ensures)

@@ -15,15 +15,15 @@ use Rattle.table.proofs.larger.Reads as larger-reads
 use Rattle.table.proofs.+sum_width.{statement}
 use Rattle.table.proofs.+sum_width.Tie.{close}
 
-abbrev μ-sum-width : Measures 2 sum-width-kinds.ps ℕ
+abbrev μ-sum-width : Measures 3 sum-width-kinds.ps ℕ
 μ-sum-width κs a = a .1 .1 .1 .0
 
-abbrev sum-width-at : ℕ → In 2 sum-width-kinds.ps
-sum-width-at t = and 2 sum-width-kinds.ps (is 2 sum-width-kinds.ps μ-sum-width t) sum-width.Pre
+abbrev sum-width-at : ℕ → In 3 sum-width-kinds.ps
+sum-width-at t = and 3 sum-width-kinds.ps (is 3 sum-width-kinds.ps μ-sum-width t) sum-width.Pre
 
-abbrev sum-width-below : ℕ → In 2 sum-width-kinds.ps
+abbrev sum-width-below : ℕ → In 3 sum-width-kinds.ps
 sum-width-below t =
-    and 2 sum-width-kinds.ps (falls 2 sum-width-kinds.ps _<_ μ-sum-width t) sum-width.Pre
+    and 3 sum-width-kinds.ps (falls 3 sum-width-kinds.ps _<_ μ-sum-width t) sum-width.Pre
 
 abbrev calls : ℕ → sum-width-lts.Claims
 calls t = (
@@ -41,6 +41,10 @@ calls t = (
   cut-off-reads.Learnt,
 )
 
+-- a callee that is lent the table
+with-table : {A B C : Type 0} → C → A × B → A × (B × C)
+with-table t p = (p .0, (p .1, t))
+
 ruleset steps = (sum-one, sum-fork, narrow-of, two, share-left, share-sub, share-right, fits-larger, needs)
 
 pub +sum-width-spec : {M : Type 1} → statement M
@@ -48,10 +52,10 @@ pub +sum-width-spec : {M : Type 1} → statement M
     (λ c κs. search steps)
     (λ c κs. search steps)
     (λ c. search steps)
-    (λ c κs. omega arith)
-    (λ c κs. let p = c .before .before .before .before .pre in share-left _ _ _ (p .0) (c .before .if1 .left) (p .1 .0) (p .1 .1) (c .btree-split-index .ensures))
+    (λ c κs. let p = c .before .before .before .pre in ((omega arith, omega arith), p .1 .1))
+    (λ c κs. let p = c .before .before .before .before .pre in with-table (p .1 .1) (share-left _ _ _ (p .0) (c .before .if1 .left) (p .1 .0 .0) (p .1 .0 .1) (c .btree-split-index .ensures)))
     (λ c. search steps)
-    (λ c κs. let p = c .before .before .before .before .before .pre in share-right _ _ _ (p .0) (c .before .before .if1 .left) (p .1 .0) (p .1 .1) (c .before .btree-split-index .ensures))
+    (λ c κs. let p = c .before .before .before .before .before .pre in with-table (p .1 .1) (share-right _ _ _ (p .0) (c .before .before .if1 .left) (p .1 .0 .0) (p .1 .0 .1) (c .before .btree-split-index .ensures)))
     (λ c κs. search steps)
     (λ c. search steps)
     (λ c κs. search steps)

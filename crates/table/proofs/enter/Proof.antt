@@ -22,7 +22,7 @@ mul-facts-2 : tie.Need-mul-facts-2
 mul-facts-2 c = let p = c .before .before .before .before .before .before .before .before .pre in record { fits = omega arith }
 
 slice-write-facts-2 : tie.Need-slice-write-facts-2
-slice-write-facts-2 c = let a = c .before .before .before .before .before .before .before .before in lt-length-set (a .args .facts .now) (a .args .i) (c .facts-of .result .size) (a .pre .1)
+slice-write-facts-2 c = let a = c .before .before .before .before .before .before .before .before in lt-length-set (a .args .facts .now) (a .args .i) (c .facts-of .result .size) (a .pre .1 .0)
 
 returns : tie.Need-returns
 returns c = let a = c .before .before .before .before .before .before .before .before .before .before in let h = c .before .before .before .before .before .before .head-at .ensures in entered-halves _ _ (a .args .facts .now) _ _ _ _ _ (a .pre .0) (h .0) (h .1) (c .before .before .facts-of .ensures) (c .before .is-never .ensures) refl

@@ -26,7 +26,7 @@ enum-known-h c = search needs
 
 -- src/lib.rt:200:26
 uint-facts-requires : tie.Need-uint-facts-requires
-uint-facts-requires c κs = fair _ _ (c .before .before .before .before .before .before .pre) (c .before .h .given .1)
+uint-facts-requires c κs = fair _ _ (c .before .before .before .before .before .before .pre .0) (c .before .h .given .1)
 
 -- src/lib.rt:201:25
 enum-told-5 : tie.Need-enum-told-5
@@ -54,7 +54,7 @@ sum-entries-requires c κs = search needs
 
 -- src/lib.rt:203:27
 product-facts-requires : tie.Need-product-facts-requires
-product-facts-requires c κs = row-small _ _ _ _ _ _ (c .sum-entries .ensures) (fair _ _ (c .before .before .before .before .before .before .before .pre) (c .before .before .h2 .given .1))
+product-facts-requires c κs = row-small _ _ _ _ _ _ (c .sum-entries .ensures) (fair _ _ (c .before .before .before .before .before .before .before .pre .0) (c .before .before .h2 .given .1))
 
 -- src/lib.rt:204:21
 enum-known-h-3 : tie.Need-enum-known-h-3
@@ -62,7 +62,7 @@ enum-known-h-3 c = search needs
 
 -- src/lib.rt:204:27
 array-facts-requires : tie.Need-array-facts-requires
-array-facts-requires c κs = fair _ _ (c .before .before .before .before .before .before .pre) (c .before .h3 .given .1)
+array-facts-requires c κs = fair _ _ (c .before .before .before .before .before .before .pre .0) (c .before .h3 .given .1)
 
 -- src/lib.rt:205:22
 enum-known-h-4 : tie.Need-enum-known-h-4
@@ -70,7 +70,7 @@ enum-known-h-4 c = search needs
 
 -- src/lib.rt:205:28
 list-facts-requires : tie.Need-list-facts-requires
-list-facts-requires c κs = fair _ _ (c .before .before .before .before .before .before .pre) (c .before .h4 .given .1)
+list-facts-requires c κs = fair _ _ (c .before .before .before .before .before .before .pre .0) (c .before .h4 .given .1)
 
 -- src/lib.rt:206:24
 enum-known-h-5 : tie.Need-enum-known-h-5
@@ -78,7 +78,7 @@ enum-known-h-5 c = search needs
 
 -- src/lib.rt:206:30
 enum-facts-requires : tie.Need-enum-facts-requires
-enum-facts-requires c κs = fair _ _ (c .before .before .before .before .before .before .pre) (c .before .h5 .given .1)
+enum-facts-requires c κs = let p = c .before .before .before .before .before .before .pre in (fair _ _ (p .0) (c .before .h5 .given .1), p .1)
 
 -- src/lib.rt:207:23
 enum-known-h-6 : tie.Need-enum-known-h-6
@@ -90,7 +90,7 @@ sum-entries-requires-2 c κs = search needs
 
 -- src/lib.rt:207:29
 product-facts-requires-2 : tie.Need-product-facts-requires-2
-product-facts-requires-2 c κs = row-small _ _ _ _ _ _ (c .sum-entries2 .ensures) (fair _ _ (c .before .before .before .before .before .before .before .pre) (c .before .before .h6 .given .1))
+product-facts-requires-2 c κs = row-small _ _ _ _ _ _ (c .sum-entries2 .ensures) (fair _ _ (c .before .before .before .before .before .before .before .pre .0) (c .before .before .h6 .given .1))
 
 -- src/lib.rt:191:1
 returns : tie.Need-returns

@@ -9,13 +9,13 @@ use Rattle.table.proofs.measure.Statement.{statement}
 use Rattle.table.proofs.measure.Tie as tie
 
 abbrev Inv-loop : tie.InvT-loop
-Inv-loop ty ends facts₀ n never₀ large₀ i₀ facts never large i = (Filling ty ends n i never large (take 1024 facts) (drop 1024 facts)) × (length facts ≡ length facts₀)
+Inv-loop ty ends facts₀ n lefts never₀ large₀ i₀ facts never large i = (Filling ty ends n i never large (take 1024 facts) (drop 1024 facts)) × (length facts ≡ length facts₀)
 
 abbrev μ-loop : tie.MeasureT-loop
-μ-loop ty ends facts₀ n never₀ large₀ i₀ facts never large i = i
+μ-loop ty ends facts₀ n lefts never₀ large₀ i₀ facts never large i = i
 
 enter-requires : tie.Need-enter-requires Inv-loop μ-loop
-enter-requires c κs = let l = c .before .before .loop in filling-places (l .facts) (l .inv .0) (search needs)
+enter-requires c κs = let l = c .before .before .loop in let p = filling-places (l .facts) (l .inv .0) (search needs) in (p .0, (p .1, search needs))
 
 pub measure-spec : {M : Type 1} → statement M
 measure-spec =

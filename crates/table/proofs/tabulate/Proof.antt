@@ -6,7 +6,7 @@ use Rattle.table.proofs.tabulate.Statement.{statement}
 use Rattle.table.proofs.tabulate.Tie as tie
 
 measure-requires : tie.Need-measure-requires
-measure-requires c κs = let a = c .before .before .before .before .before .before .before .before .before .before .before .before in measurable _ (c .before .before .before .before .before .before .before .check-type .ensures) (c .before .before .before .n .given .1) (first-long (a .args .facts .now) (a .pre .1)) (second-long (a .args .facts .now) (a .pre .1))
+measure-requires c κs = let a = c .before .before .before .before .before .before .before .before .before .before .before .before in (measurable _ (c .before .before .before .before .before .before .before .check-type .ensures) (c .before .before .before .n .given .1) (first-long (a .args .facts .now) (a .pre .1 .0)) (second-long (a .args .facts .now) (a .pre .1 .0)), search needs)
 
 returns : tie.Need-returns
 returns c = tabled-never _ _ (c .before .before .before .before .before .before .before .before .before .before .before .check-type .ensures) (c .before .before .before .before .before .before .before .n .given .1) (c .before .before .before .measure .ensures) (c .if1 .taken)

@@ -18,15 +18,15 @@ use Rattle.told.proofs.hop.Reads as hop-reads
 use Rattle.unframe.proofs.+find_choice.{statement}
 use Rattle.unframe.proofs.+find_choice.Tie.{close}
 
-abbrev μ-find-choice : Measures 2 find-choice-kinds.ps ℕ
+abbrev μ-find-choice : Measures 3 find-choice-kinds.ps ℕ
 μ-find-choice κs a = a .1 .1 .0
 
 module _ (t : ℕ) where
-  abbrev find-choice-at : In 2 find-choice-kinds.ps
-  find-choice-at = and 2 find-choice-kinds.ps (is 2 find-choice-kinds.ps μ-find-choice t) find-choice.Pre
+  abbrev find-choice-at : In 3 find-choice-kinds.ps
+  find-choice-at = and 3 find-choice-kinds.ps (is 3 find-choice-kinds.ps μ-find-choice t) find-choice.Pre
 
-  abbrev find-choice-below : In 2 find-choice-kinds.ps
-  find-choice-below = and 2 find-choice-kinds.ps (falls 2 find-choice-kinds.ps _<_ μ-find-choice t) find-choice.Pre
+  abbrev find-choice-below : In 3 find-choice-kinds.ps
+  find-choice-below = and 3 find-choice-kinds.ps (falls 3 find-choice-kinds.ps _<_ μ-find-choice t) find-choice.Pre
 
   abbrev calls : find-choice-lts.Claims
   calls = (btree-split-index-reads.Asked, btree-split-index-reads.Learnt, bit-at-reads.Asked, bit-at-reads.Learnt, hop-reads.Asked, hop-reads.Learnt, find-choice-below, find-choice.Post)
@@ -38,7 +38,7 @@ module _ (t : ℕ) where
   returns c = let a = c .before .before .before .args in chosen-only (a .ends .now) (a .at) (a .n) (a .frame .now) (a .bit) (c .if1 .taken)
 
   bit-at-requires : find-choice-lts.Need-bit-at-requires calls find-choice-at find-choice.Post
-  bit-at-requires c κs = let e = higher (split c) in let i = c .before .before .before .before .pre .1 .1 .1 .0 in omega arith
+  bit-at-requires c κs = let e = higher (split c) in let i = c .before .before .before .before .pre .1 .1 .1 .0 .0 in omega arith
 
   sub-others : find-choice-lts.Need-sub-others calls find-choice-at find-choice.Post
   sub-others c = let l = split (c .before .before) .less in omega arith
@@ -47,7 +47,7 @@ module _ (t : ℕ) where
   hop-requires c κs = left-hops (split (c .before .before)) (c .before .before .before .before .before .before .pre .1 .1 .0)
 
   add-find-choice : find-choice-lts.Need-add-find-choice calls find-choice-at find-choice.Post
-  add-find-choice c = let e = higher (split (c .before .before .before)) in let i = c .before .before .before .before .before .before .before .pre .1 .1 .1 .1 in omega arith
+  add-find-choice c = let e = higher (split (c .before .before .before)) in let i = c .before .before .before .before .before .before .before .pre .1 .1 .1 .0 .1 in omega arith
 
   find-choice-requires : find-choice-lts.Need-find-choice-requires calls find-choice-at find-choice.Post
   find-choice-requires c κs =
@@ -57,17 +57,17 @@ module _ (t : ℕ) where
       let e = higher s in
       let p = c .before .before .before .before .before .before .before .pre in
       let n = p .1 .0 .1 in
-      let i = p .1 .1 .1 .0 in
-      let j = p .1 .1 .1 .1 in
-      (omega arith, ((omega arith, omega arith), (right-hops s (p .1 .1 .0) (c .hop .ensures), (omega arith, omega arith))))
+      let i = p .1 .1 .1 .0 .0 in
+      let j = p .1 .1 .1 .0 .1 in
+      (omega arith, ((omega arith, omega arith), (right-hops s (p .1 .1 .0) (c .hop .ensures), ((omega arith, omega arith), c .before .before .before .before .before .before .before .pre .1 .1 .1 .1))))
 
   returns-2 : find-choice-lts.Need-returns-2 calls find-choice-at find-choice.Post
   returns-2 c =
       let a = c .before .before .before .before .before .before .before .before .before .args in
       chosen-right (a .ends .now) (a .at) (a .n) (a .frame .now) (a .bit) (split (c .before .before .before .before .before)) (sym (c .before .before .before .before .bit-at .ensures) ∙ c .before .before .before .if2 .taken) (c .before .before .hop .ensures) (c .before .find-choice .ensures)
 
-  add-t11 : find-choice-lts.Need-add-t11 calls find-choice-at find-choice.Post
-  add-t11 c =
+  add-t12 : find-choice-lts.Need-add-t12 calls find-choice-at find-choice.Post
+  add-t12 c =
       let s = split (c .before .before .before .before .before) in
       let l = s .less in
       let p = c .before .before .before .before .before .before .before .before .before .pre .1 .0 .1 in
@@ -77,7 +77,7 @@ module _ (t : ℕ) where
       omega arith
 
   add-find-choice-2 : find-choice-lts.Need-add-find-choice-2 calls find-choice-at find-choice.Post
-  add-find-choice-2 c = let e = higher (split (c .before .before)) in let i = c .before .before .before .before .before .before .pre .1 .1 .1 .1 in omega arith
+  add-find-choice-2 c = let e = higher (split (c .before .before)) in let i = c .before .before .before .before .before .before .pre .1 .1 .1 .0 .1 in omega arith
 
   find-choice-requires-2 : find-choice-lts.Need-find-choice-requires-2 calls find-choice-at find-choice.Post
   find-choice-requires-2 c κs =
@@ -87,9 +87,9 @@ module _ (t : ℕ) where
       let e = higher s in
       let p = c .before .before .before .before .before .before .pre in
       let n = p .1 .0 .1 in
-      let i = p .1 .1 .1 .0 in
-      let j = p .1 .1 .1 .1 in
-      (omega arith, ((omega arith, omega arith), (left-hops s (p .1 .1 .0), (omega arith, omega arith))))
+      let i = p .1 .1 .1 .0 .0 in
+      let j = p .1 .1 .1 .0 .1 in
+      (omega arith, ((omega arith, omega arith), (left-hops s (p .1 .1 .0), ((omega arith, omega arith), c .before .before .before .before .before .before .pre .1 .1 .1 .1))))
 
   returns-3 : find-choice-lts.Need-returns-3 calls find-choice-at find-choice.Post
   returns-3 c =
@@ -97,4 +97,4 @@ module _ (t : ℕ) where
       chosen-left (a .ends .now) (a .at) (a .n) (a .frame .now) (a .bit) (split (c .before .before .before)) (sym (c .before .before .bit-at .ensures) ∙ c .before .if2 .left) (c .find-choice2 .ensures)
 
 pub +find-choice-spec : {M : Type 1} → statement M
-+find-choice-spec = close μ-find-choice λ t. find-choice-lts.spec (calls t) (find-choice-at t) find-choice.Post (returns t) (λ c κs. search needs) (bit-at-requires t) (sub-others t) (hop-requires t) (add-find-choice t) (find-choice-requires t) (add-t11 t) (returns-2 t) (add-find-choice-2 t) (find-choice-requires-2 t) (returns-3 t)
++find-choice-spec = close μ-find-choice λ t. find-choice-lts.spec (calls t) (find-choice-at t) find-choice.Post (returns t) (λ c κs. search needs) (bit-at-requires t) (sub-others t) (hop-requires t) (add-find-choice t) (find-choice-requires t) (add-t12 t) (returns-2 t) (add-find-choice-2 t) (find-choice-requires-2 t) (returns-3 t)

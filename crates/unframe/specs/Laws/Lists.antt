@@ -1,8 +1,8 @@
 -- Laws of lists in a frame, as code reads them: a block of 1, or a block of half the bound and the list with that bound.
 use mathlib.Core.Path.{_≡_, refl, sym, ap, _∙_}
 use mathlib.Core.Bool.{Bool, true, false}
-use mathlib.Core.List.{List, []}
-use mathlib.Core.Option.{Option, some, Option·some-injective}
+use mathlib.Core.List.{List, [], append-nil}
+use mathlib.Core.Option.{Option, none, some, Option·some-injective}
 use Prim.Native.Nat.{ℕ, zero, suc, _+_, _-_, _*_, _^_, _≤_, _<_}
 use native.Mathlib.Nat.{two-pow-succ, one-le-pow}
 use native.Mathlib.Numerals.{sub-one}
@@ -19,12 +19,22 @@ use Rattle.model.specs.Laws.Sizes.{width-block, width-partition-zero, width-par
 use Rattle.types.specs.Heads.{FairBound}
 use Rattle.structural.specs.Forms as structural
 use Rattle.structural.specs.Laws.Bounds.{Power, power-of}
+use Rattle.told.specs.declared.Parts.{Parts}
 use Rattle.told.specs.declared.Parts.the-variants.{Copies}
 use Rattle.record.specs.Trees.{numbered}
 use Rattle.accept.specs.Forms.{tag-at}
-use Rattle.unframe.specs.Forms.{row, block, both-numbered, blocks, listed}
+use Rattle.unframe.specs.Forms.{standing, both, row, block, both-numbered, blocks, listed}
 
 -- BLOCKS
+
+-- a row of one is that one
+pub row-one : (k : Parts) (d : ℕ) (s : List ℕ) (p : ℕ) (fr : List ℕ) (bit : ℕ) → row k d s 1 p fr bit ≡ standing d s p fr bit
+unfolding row
+row-one k d s p fr bit = go (standing d s p fr bit)
+  where
+    go : (o : Option (List Rec)) → both o (some []) ≡ o
+    go none = refl
+    go (some rs) = ap some (append-nil rs)
 
 module _ (d : ℕ) (s : List ℕ) (n p : ℕ) (fr : List ℕ) (bit : ℕ) where
   at-tag : (x : Bool) → tag-at fr bit ≡ x → block d s n p fr bit ≡ elim x [ false ↦ some (0, []) | true ↦ numbered n (row Copies d s n p fr (bit + 1)) ]

@@ -29,54 +29,54 @@ use Rattle.value.proofs.sum.Reads as sum-reads
 use Rattle.value.proofs.+check_parts+check_payload+check_run+check_value.{statement}
 use Rattle.value.proofs.+check_parts+check_payload+check_run+check_value.Tie.{close}
 
-abbrev μ-check-parts : Measures 3 check-parts-kinds.ps ℕ
+abbrev μ-check-parts : Measures 4 check-parts-kinds.ps ℕ
 μ-check-parts κs a = a .1 .1 .1 .0 * 2 + 1
 
-abbrev μ-check-payload : Measures 3 check-payload-kinds.ps ℕ
+abbrev μ-check-payload : Measures 4 check-payload-kinds.ps ℕ
 μ-check-payload κs a = a .1 .1 .1 .0 * 2
 
-abbrev μ-check-run : Measures 3 check-run-kinds.ps ℕ
+abbrev μ-check-run : Measures 4 check-run-kinds.ps ℕ
 μ-check-run κs a = a .1 .1 .1 .0 * 2 + 1
 
-abbrev μ-check-value : Measures 3 check-value-kinds.ps ℕ
+abbrev μ-check-value : Measures 4 check-value-kinds.ps ℕ
 μ-check-value κs a = a .1 .1 .1 .0 * 2
 
 abbrev parts-inv : check-parts-lts.InvT-loop
-parts-inv ty ends at level n val v shape p₀ e₀ size₀ left₀ p e size left = Going ty ends at level n val v shape p e size left
+parts-inv ty ends at level n val v shape lefts p₀ e₀ size₀ left₀ p e size left = Going ty ends at level n val v shape p e size left
 
 abbrev parts-measure : check-parts-lts.MeasureT-loop
-parts-measure ty ends at level n val v shape p₀ e₀ size₀ left₀ p e size left = left
+parts-measure ty ends at level n val v shape lefts p₀ e₀ size₀ left₀ p e size left = left
 
 abbrev run-inv : check-run-lts.InvT-loop
-run-inv ty ends at level n val v shape e₀ size₀ left₀ e size left = Running ty ends at level n val v shape e size left
+run-inv ty ends at level n val v shape lefts e₀ size₀ left₀ e size left = Running ty ends at level n val v shape e size left
 
 abbrev run-measure : check-run-lts.MeasureT-loop
-run-measure ty ends at level n val v shape e₀ size₀ left₀ e size left = left
+run-measure ty ends at level n val v shape lefts e₀ size₀ left₀ e size left = left
 
 module _ (t : ℕ) where
-  abbrev check-parts-at : In 3 check-parts-kinds.ps
-  check-parts-at = and 3 check-parts-kinds.ps (is 3 check-parts-kinds.ps μ-check-parts t) check-parts.Pre
+  abbrev check-parts-at : In 4 check-parts-kinds.ps
+  check-parts-at = and 4 check-parts-kinds.ps (is 4 check-parts-kinds.ps μ-check-parts t) check-parts.Pre
 
-  abbrev check-parts-below : In 3 check-parts-kinds.ps
-  check-parts-below = and 3 check-parts-kinds.ps (falls 3 check-parts-kinds.ps _<_ μ-check-parts t) check-parts.Pre
+  abbrev check-parts-below : In 4 check-parts-kinds.ps
+  check-parts-below = and 4 check-parts-kinds.ps (falls 4 check-parts-kinds.ps _<_ μ-check-parts t) check-parts.Pre
 
-  abbrev check-payload-at : In 3 check-payload-kinds.ps
-  check-payload-at = and 3 check-payload-kinds.ps (is 3 check-payload-kinds.ps μ-check-payload t) check-payload.Pre
+  abbrev check-payload-at : In 4 check-payload-kinds.ps
+  check-payload-at = and 4 check-payload-kinds.ps (is 4 check-payload-kinds.ps μ-check-payload t) check-payload.Pre
 
-  abbrev check-payload-below : In 3 check-payload-kinds.ps
-  check-payload-below = and 3 check-payload-kinds.ps (falls 3 check-payload-kinds.ps _<_ μ-check-payload t) check-payload.Pre
+  abbrev check-payload-below : In 4 check-payload-kinds.ps
+  check-payload-below = and 4 check-payload-kinds.ps (falls 4 check-payload-kinds.ps _<_ μ-check-payload t) check-payload.Pre
 
-  abbrev check-run-at : In 3 check-run-kinds.ps
-  check-run-at = and 3 check-run-kinds.ps (is 3 check-run-kinds.ps μ-check-run t) check-run.Pre
+  abbrev check-run-at : In 4 check-run-kinds.ps
+  check-run-at = and 4 check-run-kinds.ps (is 4 check-run-kinds.ps μ-check-run t) check-run.Pre
 
-  abbrev check-run-below : In 3 check-run-kinds.ps
-  check-run-below = and 3 check-run-kinds.ps (falls 3 check-run-kinds.ps _<_ μ-check-run t) check-run.Pre
+  abbrev check-run-below : In 4 check-run-kinds.ps
+  check-run-below = and 4 check-run-kinds.ps (falls 4 check-run-kinds.ps _<_ μ-check-run t) check-run.Pre
 
-  abbrev check-value-at : In 3 check-value-kinds.ps
-  check-value-at = and 3 check-value-kinds.ps (is 3 check-value-kinds.ps μ-check-value t) check-value.Pre
+  abbrev check-value-at : In 4 check-value-kinds.ps
+  check-value-at = and 4 check-value-kinds.ps (is 4 check-value-kinds.ps μ-check-value t) check-value.Pre
 
-  abbrev check-value-below : In 3 check-value-kinds.ps
-  check-value-below = and 3 check-value-kinds.ps (falls 3 check-value-kinds.ps _<_ μ-check-value t) check-value.Pre
+  abbrev check-value-below : In 4 check-value-kinds.ps
+  check-value-below = and 4 check-value-kinds.ps (falls 4 check-value-kinds.ps _<_ μ-check-value t) check-value.Pre
 
   abbrev check-parts-calls : check-parts-lts.Claims
   check-parts-calls = (joints-of-reads.Asked, joints-of-reads.Learnt, sum-reads.Asked, sum-reads.Learnt, check-value-below, check-value.Post, end-at-reads.Asked, end-at-reads.Learnt)
@@ -104,7 +104,7 @@ pub +check-parts+check-payload+check-run+check-value-spec : {M : Type 1} → sta
     -- loop-holds
     (λ c. search rows)
     -- check-value-requires
-    (λ c κs. (search rows, search rows))
+    (λ c κs. (search rows, (search rows, search needs)))
     -- enum-known-next
     (λ c. search rows)
     -- end-at-requires
@@ -139,7 +139,7 @@ pub +check-parts+check-payload+check-run+check-value-spec : {M : Type 1} → sta
     -- sub-check-parts
     (λ c. search steps)
     -- check-parts-requires
-    (λ c κs. (search steps, search steps))
+    (λ c κs. (search steps, (search steps, search needs)))
     -- returns
     (λ c. search steps)
     -- returns-2
@@ -154,7 +154,7 @@ pub +check-parts+check-payload+check-run+check-value-spec : {M : Type 1} → sta
     -- loop-holds
     (λ c. search rows)
     -- check-value-requires
-    (λ c κs. (search rows, search rows))
+    (λ c κs. (search rows, (search rows, search needs)))
     -- enum-known-next
     (λ c. search rows)
     -- sub-left
@@ -189,7 +189,7 @@ pub +check-parts+check-payload+check-run+check-value-spec : {M : Type 1} → sta
     -- sum-requires
     (λ c κs. search steps)
     -- check-run-requires
-    (λ c κs. (search steps, search steps))
+    (λ c κs. (search steps, (search steps, search needs)))
     -- enum-known-n
     (λ c. search steps)
     -- add-check-parts
@@ -199,7 +199,7 @@ pub +check-parts+check-payload+check-run+check-value-spec : {M : Type 1} → sta
     -- add-check-parts-2
     (λ c. search steps)
     -- check-parts-requires
-    (λ c κs. (search steps, search steps))
+    (λ c κs. (search steps, (search steps, search needs)))
     -- enum-known-i
     (λ c. search steps)
     -- add-hop-over-2
@@ -213,7 +213,7 @@ pub +check-parts+check-payload+check-run+check-value-spec : {M : Type 1} → sta
     -- sum-requires-2
     (λ c κs. search steps)
     -- check-payload-requires
-    (λ c κs. (search steps, search steps))
+    (λ c κs. (search steps, (search steps, search needs)))
     -- returns
     (λ c. search steps)
     -- returns-2

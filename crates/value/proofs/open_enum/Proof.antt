@@ -9,7 +9,7 @@ enum-known-c : tie.Need-enum-known-c
 enum-known-c c = search steps
 
 enum-tags-requires : tie.Need-enum-tags-requires
-enum-tags-requires c κs = search steps
+enum-tags-requires c κs = (search steps, search needs)
 
 enum-told : tie.Need-enum-told
 enum-told c = search steps

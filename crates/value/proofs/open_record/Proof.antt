@@ -84,7 +84,7 @@ count-of-requires-4 : tie.Need-count-of-requires-4
 count-of-requires-4 c κs = search needs
 
 open-enum-requires : tie.Need-open-enum-requires
-open-enum-requires c κs = search steps
+open-enum-requires c κs = (search steps, search needs)
 
 enum-told-7 : tie.Need-enum-told-7
 enum-told-7 c = search needs

@@ -51,8 +51,8 @@ END {
         print row
     }
     print "\nOurs to plain:\n"
-    print "| job type | lower | write_shape | reconstruct | write_frame | read_frame | part_read | part_edit |"
-    print "|---|--:|--:|--:|--:|--:|--:|--:|"
+    print "| job type | lower | write_shape | reconstruct | write_frame | read_frame | part_read | part_edit | room | shape_records |"
+    print "|---|--:|--:|--:|--:|--:|--:|--:|--:|--:|"
     for (j = 1; j <= job_count; j++) {
         row = "| " jobs[j] " |"
         for (e = 1; e <= entry_count; e++) row = row " " ratio(of(jobs[j], entries[e], "ours"), of(jobs[j], entries[e], "plain")) " |"

@@ -9,15 +9,20 @@
  * buffer of exactly that length is enough. An accepted result leaves every byte of
  * the buffer past its end as it was; a refusal leaves all of them.
  *
+ * Two functions tell numbers and write no file: niegluk_room how much room a type
+ * takes, niegluk_shape_records how long a shape would be. They are lent no buffer.
+ * Each number goes behind a pointer of its own: 0 where the operation is refused.
+ *
  * A List bounded at b holds at most b - 1 elements: a value with b elements is
  * refused, with number 22.
  *
  * The caller sees to it that
  * - each pointer points to as many bytes as the length after it says (a null
- *   pointer may stand only where that length is 0), and `length` to a size_t, and
- *   that no one else writes them while the function runs;
- * - what is written (`out`, the frame of an edit, `length`) overlaps nothing else
- *   that is passed. What is only read may overlap;
+ *   pointer may stand only where that length is 0), and `length` and each number
+ *   that is told to a size_t, and that no one else writes them while the function
+ *   runs;
+ * - what is written (`out`, the frame of an edit, `length`, a number that is told)
+ *   overlaps nothing else that is passed. What is only read may overlap;
  * - the thread has the stack that the call takes (NIEGLUK_STACK_.. below).
  * Nothing else is asked: any bytes may stand in the files, of any length.
  *
@@ -26,7 +31,7 @@
  *
  * The library, libniegluk.a, is for x86-64: one ELF object, for any such processor,
  * with the System V calling convention. It has no data and no bss, defines no global
- * symbol but the eight functions, and is position independent, so that a shared
+ * symbol but the ten functions, and is position independent, so that a shared
  * object can have it too. It wants only `memset` from outside: a program without a C
  * library brings its own. niegluk_says is not in it, but in niegluk_says.c.
  */
@@ -101,7 +106,9 @@ const char *niegluk_says(uint32_t number);
  * under ASan lend 8 KiB more. A call touches its stack page by page, so a thread
  * with too little ends at its guard page. */
 #define NIEGLUK_STACK_LOWER 103424
+#define NIEGLUK_STACK_ROOM 71680
 #define NIEGLUK_STACK_WRITE_SHAPE 106496
+#define NIEGLUK_STACK_SHAPE_RECORDS 45056
 #define NIEGLUK_STACK_RECONSTRUCT 175104
 #define NIEGLUK_STACK_CLEAN_SHAPE 183296
 #define NIEGLUK_STACK_WRITE_FRAME 62464
@@ -115,12 +122,28 @@ const char *niegluk_says(uint32_t number);
 uint32_t niegluk_lower(const uint8_t *ty, size_t ty_len,
                        uint8_t *out, size_t out_len, size_t *length);
 
+/* Tells the room that a type takes: to *lowered the records of its lowered type, one
+ * byte each in what niegluk_lower writes; to *bits the bits of a frame, which has
+ * (bits + 7) / 8 bytes; to *shape the most records that a shape of it has, one byte
+ * each in what niegluk_write_shape writes: some value's shape has as many, and none
+ * has more.
+ * At most 65,536, 32,768 and 65,536. Numbers 1 to 7. */
+uint32_t niegluk_room(const uint8_t *ty, size_t ty_len,
+                      size_t *lowered, size_t *bits, size_t *shape);
+
 /* Writes the shape of a value: its records, one byte each (0 a unit, 1 a left, 2 a
  * right, 3 a pair), parent first.
  * At most 65,536 bytes. Numbers 1 to 7, 15, 16, 21, 22 and 17. */
 uint32_t niegluk_write_shape(const uint8_t *ty, size_t ty_len,
                              const uint8_t *value, size_t value_len,
                              uint8_t *out, size_t out_len, size_t *length);
+
+/* Tells how many records the shape of a value has: to *records the length of what
+ * niegluk_write_shape would write. It needs no buffer for them.
+ * At most 65,536. Numbers 1 to 7, 15, 16, 21 and 22. */
+uint32_t niegluk_shape_records(const uint8_t *ty, size_t ty_len,
+                               const uint8_t *value, size_t value_len,
+                               size_t *records);
 
 /* Reads a shape as a value of a type, and writes its value file, 36 bytes a record.
  * The type need not lower: a Never is refused only where the shape reaches it. Where

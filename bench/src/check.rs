@@ -44,11 +44,19 @@ fn right(case: &Case) -> Option<bool> {
         5 => plain::read_frame(ty, file, out),
         6 => plain::part_read(ty, file, path, out),
         7 => plain::part_edit(ty, out, path, value),
+        9 => return Some(told_right(case, plain::room(ty).map(|told| told.to_vec()))),
+        10 => return Some(told_right(case, plain::shape_records(ty, file).map(|told| vec![told]))),
         _ => return None,
     };
     let mut after = before;
     after[..result.len()].copy_from_slice(result);
     Some(told == if case.refusal == 0 { Ok(result.len()) } else { Err(case.refusal) } && lent == after)
+}
+
+/// Are these the numbers of the result, three bytes each?
+fn told_right(case: &Case, told: Result<Vec<usize>, u32>) -> bool {
+    let result = case.files[4].chunks(3).map(number).collect();
+    told == if case.refusal == 0 { Ok(result) } else { Err(case.refusal) }
 }
 
 /// Prints how many cases there are, and which differ.

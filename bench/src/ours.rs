@@ -27,6 +27,8 @@ extern "C" {
         ty: Bytes, ty_len: usize, frame: Lent, frame_len: usize, path: Bytes, path_len: usize,
         value: Bytes, value_len: usize, length: Length,
     ) -> u32;
+    fn niegluk_room(ty: Bytes, ty_len: usize, lowered: Length, bits: Length, shape: Length) -> u32;
+    fn niegluk_shape_records(ty: Bytes, ty_len: usize, value: Bytes, value_len: usize, records: Length) -> u32;
 }
 
 type Outcome = Result<usize, u32>;
@@ -83,4 +85,16 @@ pub fn part_edit(ty: &[u8], frame: &mut [u8], path: &[u8], value: &[u8]) -> Outc
             value.as_ptr(), value.len(), l,
         )
     })
+}
+
+pub fn room(ty: &[u8]) -> Result<[usize; 3], u32> {
+    let (mut lowered, mut bits, mut shape) = (0, 0, 0);
+    match unsafe { niegluk_room(ty.as_ptr(), ty.len(), &mut lowered, &mut bits, &mut shape) } {
+        0 => Ok([lowered, bits, shape]),
+        number => Err(number),
+    }
+}
+
+pub fn shape_records(ty: &[u8], value: &[u8]) -> Outcome {
+    outcome(|l| unsafe { niegluk_shape_records(ty.as_ptr(), ty.len(), value.as_ptr(), value.len(), l) })
 }

@@ -271,6 +271,44 @@ fn put_tree<F: FnMut(usize, &mut Cursor)>(kind: u8, from: usize, n: usize, out: 
     }
 }
 
+// Room
+
+/// The records of the lowered type, the bits of a frame, the most records of a shape.
+pub fn room(ty: &[u8]) -> Outcome<[usize; 3]> {
+    let ty = read_lowering(ty)?;
+    Ok([ty.size as usize, ty.width, most(&ty)])
+}
+
+fn most(ty: &Ty) -> usize {
+    match &ty.kind {
+        Kind::Never => unreachable!("row 6"),
+        Kind::Bool => 2,
+        Kind::UInt(bits) => 3 * bits - 1,
+        Kind::Either(sides) => 1 + most(&sides[0]).max(most(&sides[1])),
+        Kind::Option(t) => 1 + most(t),
+        Kind::Tuple(parts) => most_of_parts(parts),
+        Kind::Array(0, _) => 1,
+        Kind::Array(n, t) => n * (most(t) + 1) - 1,
+        Kind::List(bound, t) => (bound - 1) * (most(t) + 1) + bound.trailing_zeros() as usize - 1,
+        Kind::Enum(variants) => most_of_variants(variants),
+    }
+}
+
+fn most_of_parts(parts: &[Ty]) -> usize {
+    match parts.len() {
+        0 => 1,
+        n => parts.iter().map(most).sum::<usize>() + n - 1,
+    }
+}
+
+fn most_of_variants(variants: &[Variant]) -> usize {
+    if let [one] = variants {
+        return most_of_parts(&one.parts);
+    }
+    let (left, right) = variants.split_at(split(variants.len()));
+    1 + most_of_variants(left).max(most_of_variants(right))
+}
+
 // Value files
 
 /// One record of a value file.
@@ -467,6 +505,83 @@ fn put_injection(index: usize, n: usize, out: &mut Vec<u8>) {
         out.push(2);
         put_injection(index - left, n - left, out);
     }
+}
+
+// Records of shapes
+
+/// The records of a value's shape. They are counted and not written.
+pub fn shape_records(ty: &[u8], value: &[u8]) -> Outcome<usize> {
+    let ty = read_lowering(ty)?;
+    let mut records = 0;
+    whole_file(value, |rest| count_shape(&ty, rest, &mut records))?;
+    Ok(records)
+}
+
+fn count_shape(ty: &Ty, rest: &mut Rest, records: &mut usize) -> Option<()> {
+    let record = rest.record()?;
+    match &ty.kind {
+        Kind::Never => None,
+        Kind::Bool => {
+            record.chosen(1)?;
+            *records += 2;
+            Some(())
+        }
+        Kind::UInt(bits) => {
+            record.integer(*bits, rest)?;
+            *records += 3 * bits - 1;
+            Some(())
+        }
+        Kind::Either(sides) => {
+            let right = record.chosen(3)?;
+            *records += 1;
+            count_shape(&sides[right as usize], rest, records)
+        }
+        Kind::Option(t) => {
+            let some = record.chosen(4)?;
+            *records += 1 + !some as usize;
+            if some {
+                count_shape(t, rest, records)?;
+            }
+            Some(())
+        }
+        Kind::Tuple(parts) => {
+            (record.number(5)? == parts.len()).then_some(())?;
+            count_parts(parts, rest, records)
+        }
+        Kind::Array(n, t) => {
+            (record.number(6)? == *n).then_some(())?;
+            *records += if *n == 0 { 1 } else { n - 1 };
+            (0..*n).try_for_each(|_| count_shape(t, rest, records))
+        }
+        Kind::List(bound, t) => {
+            let n = record.number(7)?;
+            rest.must(n < *bound, 22)?;
+            // The blocks are joined by pairs; an empty one has two records, another one for each element and its own.
+            let blocks = bound.trailing_zeros() as usize;
+            *records += blocks - 1 + n + 2 * (blocks - n.count_ones() as usize);
+            (0..n).try_for_each(|_| count_shape(t, rest, records))
+        }
+        Kind::Enum(variants) => {
+            let index = record.number(8)?;
+            let parts = &variants.get(index)?.parts;
+            *records += sums(index, variants.len());
+            count_parts(parts, rest, records)
+        }
+    }
+}
+
+fn count_parts(parts: &[Ty], rest: &mut Rest, records: &mut usize) -> Option<()> {
+    *records += if parts.is_empty() { 1 } else { parts.len() - 1 };
+    parts.iter().try_for_each(|t| count_shape(t, rest, records))
+}
+
+/// The sums on the way to a variant.
+fn sums(index: usize, n: usize) -> usize {
+    if n == 1 {
+        return 0;
+    }
+    let left = split(n);
+    1 + if index < left { sums(index, left) } else { sums(index - left, n - left) }
 }
 
 // Values of shapes

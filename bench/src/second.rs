@@ -23,6 +23,15 @@ pub fn shaped(ty: &[u8], value: &[u8]) -> Outcome {
     Ok(shape(&ty, &read_value(&ty, value)?))
 }
 
+pub fn room(ty: &[u8]) -> Result<[usize; 3], u32> {
+    let lowered = lowered(ty)?;
+    Ok([lowered.len(), Lowered::new(&lowered).width(), frames::longest(&lowered)])
+}
+
+pub fn shape_records(ty: &[u8], value: &[u8]) -> Result<usize, u32> {
+    Ok(shaped(ty, value)?.len())
+}
+
 pub fn reconstructed(ty: &[u8], shape: &[u8]) -> Outcome {
     let ty = read_type(ty)?;
     check_shape(shape)?;

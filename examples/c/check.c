@@ -1,8 +1,8 @@
 /* Calls the functions of the library on a small table of files, each with a buffer that is longer
  * than the result, one of exactly its length and one that is a byte short, and compares the number,
- * the length and every byte of the buffer. The answers are those that the papers give, or a few
- * lines of theirs worked out by hand. Then the deepest inputs known run on the stacks that the
- * header states (stack.c). */
+ * the length and every byte of the buffer; of the functions that only tell numbers, all of these.
+ * The answers are those that the papers give, or a few lines of theirs worked out by hand. Then the
+ * deepest inputs known run on the stacks that the header states (stack.c). */
 #include <stdio.h>
 #include <stdlib.h>
 #include <string.h>
@@ -141,25 +141,56 @@ static void gives(const char *name, enum operation op, const struct file *ty,
     expect(call(op, ty, other, 0, &length) == 17 && length == 0, name, "no 17 without a buffer");
 }
 
+/* The room of a type: the number and all three others, which are 0 where it is refused. */
+static void rooms(const char *name, const struct file *ty, uint32_t number, size_t lowered,
+                  size_t bits, size_t shape)
+{
+    size_t told[] = { 12345, 12345, 12345 };
+    expect(niegluk_room(ty->bytes, ty->length, &told[0], &told[1], &told[2]) == number, name,
+           "another number for the room");
+    expect(told[0] == lowered, name, "another number of lowered records");
+    expect(told[1] == bits, name, "another number of bits");
+    expect(told[2] == shape, name, "another number for the longest shape");
+}
+
+/* The records of a value's shape: the number, and the records, which are 0 where it is refused. */
+static void counts(const char *name, const struct file *ty, const struct file *val,
+                   uint32_t number, size_t records)
+{
+    size_t told = 12345;
+    expect(niegluk_shape_records(ty->bytes, ty->length, val->bytes, val->length, &told) == number,
+           name, "another number for the shape's records");
+    expect(told == records, name, "another number of the shape's records");
+}
+
 static void types(void)
 {
+    /* the bits of a frame and the most records of a shape behind the lowered type */
     static const struct {
         const char *name, *type, *lowered;
+        size_t bits, shape;
     } good[] = {
-        { "()", "05000000", "0" },
-        { "boolean", "01000000", "100" },
-        { "u2", "02000002", "2100100" },
-        { "three booleans", "05000003 01000000 01000000 01000000", "21002100100" },
-        { "list of u1, bound 4", "07000004 02000001", "210210010010100" },
+        { "()", "05000000", "0", 0, 1 },
+        { "boolean", "01000000", "100", 1, 2 },
+        { "u2", "02000002", "2100100", 2, 5 },
+        { "three booleans", "05000003 01000000 01000000 01000000", "21002100100", 3, 8 },
+        { "list of u1, bound 4", "07000004 02000001", "210210010010100", 5, 10 },
         { "the job's type", "05000002 02000004 07000004 02000001",
-          "2221001002100100210210010010100" },
-        { "option", "04000000 01000000", "10100" },
-        { "either u4 or boolean", "03000000 02000004 01000000", "1221001002100100100" },
-        { "one variant", "08000001 09000001 02000001", "100" },
+          "2221001002100100210210010010100", 9, 22 },
+        { "option", "04000000 01000000", "10100", 2, 3 },
+        { "option of ()", "04000000 05000000", "100", 1, 2 },
+        { "either u4 or boolean", "03000000 02000004 01000000", "1221001002100100100", 5, 12 },
+        { "either u1 or 4 units, which have no bit", "03000000 02000001 06000004 05000000",
+          "11002200200", 2, 8 },
+        { "one variant", "08000001 09000001 02000001", "100", 1, 2 },
         { "three variants", "08000003 09000000 09000001 02000001 09000002 02000001 01000000",
-          "1011002100100" },
-        { "array of 0", "06000000 01000000", "0" },
-        { "array of 3", "06000003 05000000", "20200" },
+          "1011002100100", 4, 7 },
+        { "two variants, the narrower one longer",
+          "08000002 09000001 06000003 05000000 09000001 02000001", "120200100", 2, 6 },
+        { "list of (), bound 2", "07000002 05000000", "100", 1, 2 },
+        { "list of (), bound 4", "07000004 05000000", "210200100", 2, 7 },
+        { "array of 0", "06000000 01000000", "0", 0, 1 },
+        { "array of 3", "06000003 05000000", "20200", 0, 5 },
     };
     static const struct {
         const char *name, *type;
@@ -183,6 +214,7 @@ static void types(void)
     for (size_t i = 0; i < sizeof good / sizeof *good; i++) {
         struct file ty = hex(good[i].type), lowered = digits(good[i].lowered);
         gives(good[i].name, LOWER, &ty, NULL, lowered.bytes, lowered.length);
+        rooms(good[i].name, &ty, 0, lowered.length, good[i].bits, good[i].shape);
     }
     for (size_t i = 0; i < sizeof bad / sizeof *bad; i++) {
         struct file ty = hex(bad[i].type), empty = { { 0 }, 0 };
@@ -190,6 +222,8 @@ static void types(void)
         refused(bad[i].name, SHAPE, &ty, &empty, bad[i].number);
         refused(bad[i].name, FRAME, &ty, &empty, bad[i].number);
         refused(bad[i].name, UNFRAME, &ty, &empty, bad[i].number);
+        rooms(bad[i].name, &ty, bad[i].number, 0, 0, 0);
+        counts(bad[i].name, &ty, &empty, bad[i].number, 0);
         if (bad[i].number <= 5) {
             refused(bad[i].name, RECONSTRUCT, &ty, &empty, bad[i].number);
             refused(bad[i].name, CLEAN, &ty, &empty, bad[i].number);
@@ -208,18 +242,35 @@ static struct file options(size_t n, size_t more)
 
 static void limits(void)
 {
-    struct file ty = hex("06008000 05000000");
-    size_t length;
+    struct file ty = hex("06008000 05000000"), empty = { { 0 }, 0 };
+    size_t length, bits, shape;
     gives("array of 32,768 units", LOWER, &ty, NULL, NULL, 65535);
+    rooms("array of 32,768 units", &ty, 0, 65535, 0, 65535);
+    ty = hex("06000040 02000100");
+    rooms("64 integers of 256 bits", &ty, 0, 65535, 16384, 49151);
+    ty = hex("07000400 02000008");
+    rooms("list of u8, bound 1,024", &ty, 0, 32755, 8194, 24561);
     ty = options(31, 0);
     gives("boolean under 31 options", LOWER, &ty, NULL, NULL, 65);
+    rooms("boolean under 31 options", &ty, 0, 65, 32, 33);
     ty = options(32, 0);
     refused("boolean under 32 options", LOWER, &ty, NULL, 4);
+    rooms("boolean under 32 options", &ty, 4, 0, 0, 0);
+    counts("boolean under 32 options", &ty, &empty, 4, 0);
     ty = options(0, 1024);
     refused("1,025 records", LOWER, &ty, NULL, 2);
+    rooms("1,025 records", &ty, 2, 0, 0, 0);
+    counts("1,025 records", &ty, &empty, 2, 0);
     length = 1;
     expect(niegluk_lower(NULL, 0, buffer, MOST, &length) == 1 && length == 0, "no type",
            "no 1 for a null pointer with length 0");
+    length = bits = shape = 1;
+    expect(niegluk_room(NULL, 0, &length, &bits, &shape) == 1 && length == 0 && bits == 0 &&
+               shape == 0,
+           "no type", "no 1 and three times 0 for the room of a null pointer with length 0");
+    length = 1;
+    expect(niegluk_shape_records(NULL, 0, NULL, 0, &length) == 1 && length == 0, "no type",
+           "no 1 and 0 for the records of a null pointer with length 0");
 }
 
 /* Each value is written to its shape and its frame, and both are read back to the value's file. */
@@ -335,6 +386,7 @@ static void values(void)
         struct file ty = hex(good[i].type), val = value(good[i].value),
                     shape = digits(good[i].shape);
         gives(good[i].name, SHAPE, &ty, &val, shape.bytes, shape.length);
+        counts(good[i].name, &ty, &val, 0, shape.length);
         gives(good[i].name, RECONSTRUCT, &ty, &shape, val.bytes, val.length);
         gives(good[i].name, CLEAN, &ty, &shape, shape.bytes, shape.length);
         struct file frame = hex(good[i].frame);
@@ -345,6 +397,7 @@ static void values(void)
         struct file ty = hex(bad[i].type), val = value(bad[i].value);
         refused(bad[i].name, SHAPE, &ty, &val, bad[i].number);
         refused(bad[i].name, FRAME, &ty, &val, bad[i].number);
+        counts(bad[i].name, &ty, &val, bad[i].number, 0);
     }
     for (size_t i = 0; i < sizeof odd / sizeof *odd; i++) {
         struct file ty = hex(odd[i].type), shape = digits(odd[i].shape), val = value(odd[i].value);

@@ -30,6 +30,8 @@ enum { RECORD = 36, HEAD = 4 };
 
 /* The functions, by their parameters. */
 typedef uint32_t lowering(const uint8_t *, size_t, uint8_t *, size_t, size_t *);
+typedef uint32_t measuring(const uint8_t *, size_t, size_t *, size_t *, size_t *);
+typedef uint32_t counting(const uint8_t *, size_t, const uint8_t *, size_t, size_t *);
 typedef uint32_t turning(const uint8_t *, size_t, const uint8_t *, size_t, uint8_t *, size_t,
                          size_t *);
 typedef uint32_t reading(const uint8_t *, size_t, const uint8_t *, size_t, const uint8_t *, size_t,
@@ -39,7 +41,9 @@ typedef uint32_t editing(const uint8_t *, size_t, uint8_t *, size_t, const uint8
 
 enum operation {
     LOWER,
+    ROOM,
     WRITE_SHAPE,
+    SHAPE_RECORDS,
     RECONSTRUCT,
     CLEAN_SHAPE,
     WRITE_FRAME,
@@ -48,11 +52,13 @@ enum operation {
     PART_EDIT
 };
 
-/* A function, one of the four pointers, and the stack that it is lent. */
+/* A function, one of the six pointers, and the stack that it is lent. */
 struct entry {
     const char *name;
     size_t stack;
     lowering *lower;
+    measuring *measure;
+    counting *count;
     turning *turn;
     reading *read;
     editing *edit;
@@ -60,7 +66,10 @@ struct entry {
 
 static const struct entry entries[] = {
     [LOWER] = { "lower", NIEGLUK_STACK_LOWER, .lower = niegluk_lower },
+    [ROOM] = { "room", NIEGLUK_STACK_ROOM, .measure = niegluk_room },
     [WRITE_SHAPE] = { "write_shape", NIEGLUK_STACK_WRITE_SHAPE, .turn = niegluk_write_shape },
+    [SHAPE_RECORDS] = { "shape_records", NIEGLUK_STACK_SHAPE_RECORDS,
+                        .count = niegluk_shape_records },
     [RECONSTRUCT] = { "reconstruct", NIEGLUK_STACK_RECONSTRUCT, .turn = niegluk_reconstruct },
     [CLEAN_SHAPE] = { "clean_shape", NIEGLUK_STACK_CLEAN_SHAPE, .turn = niegluk_clean_shape },
     [WRITE_FRAME] = { "write_frame", NIEGLUK_STACK_WRITE_FRAME, .turn = niegluk_write_frame },
@@ -69,7 +78,8 @@ static const struct entry entries[] = {
     [PART_EDIT] = { "part_edit", NIEGLUK_STACK_PART_EDIT, .edit = niegluk_part_edit },
 };
 
-/* The files of one call, and its answer. */
+/* The files of one call, and its answer: the number, and the length; in its place the most records
+ * of a shape for `room`, and the records for `shape_records`. */
 struct file {
     uint8_t bytes[65536];
     size_t length;
@@ -79,7 +89,7 @@ struct call {
     struct entry entry;
     struct file ty, other, path, value, out;
     uint32_t number;
-    size_t length;
+    size_t length, lowered, bits;
 };
 
 /* Where stacks begin, and where a probe found the caller's stack pointer. */
@@ -93,6 +103,22 @@ static uint32_t probe_lower(const uint8_t *ty, size_t ty_len, uint8_t *out, size
                             size_t *length)
 {
     (void)ty, (void)ty_len, (void)out, (void)out_len, (void)length;
+    top = CALLER;
+    return 0;
+}
+
+static uint32_t probe_measure(const uint8_t *ty, size_t ty_len, size_t *lowered, size_t *bits,
+                              size_t *shape)
+{
+    (void)ty, (void)ty_len, (void)lowered, (void)bits, (void)shape;
+    top = CALLER;
+    return 0;
+}
+
+static uint32_t probe_count(const uint8_t *ty, size_t ty_len, const uint8_t *value,
+                            size_t value_len, size_t *records)
+{
+    (void)ty, (void)ty_len, (void)value, (void)value_len, (void)records;
     top = CALLER;
     return 0;
 }
@@ -135,6 +161,10 @@ static void *ask(void *given)
     size_t room = sizeof c->out.bytes, *length = &c->length;
     if (e->lower != NULL)
         c->number = e->lower(ty->bytes, ty->length, out, room, length);
+    else if (e->measure != NULL)
+        c->number = e->measure(ty->bytes, ty->length, &c->lowered, &c->bits, length);
+    else if (e->count != NULL)
+        c->number = e->count(ty->bytes, ty->length, other->bytes, other->length, length);
     else if (e->turn != NULL)
         c->number = e->turn(ty->bytes, ty->length, other->bytes, other->length, out, room, length);
     else if (e->read != NULL)
@@ -172,6 +202,8 @@ static size_t below(const struct call *c, size_t size)
     static struct call probe;
     probe = *c;
     probe.entry.lower = c->entry.lower == NULL ? NULL : probe_lower;
+    probe.entry.measure = c->entry.measure == NULL ? NULL : probe_measure;
+    probe.entry.count = c->entry.count == NULL ? NULL : probe_count;
     probe.entry.turn = c->entry.turn == NULL ? NULL : probe_turn;
     probe.entry.read = c->entry.read == NULL ? NULL : probe_read;
     probe.entry.edit = c->entry.edit == NULL ? NULL : probe_edit;
@@ -279,8 +311,13 @@ static const struct question {
     const char *type, *other, *value;
 } questions[] = {
     { "tuples of 33 over an array", LOWER, 0, 34753, TUPLES "06004001 05000000", "", "" },
+    { "tuples of 33 over an array", ROOM, 0, 34753, TUPLES "06004001 05000000", "", "" },
+    { "enums of 65 over a list", ROOM, 0, 32884, ENUMS, "", "" },
     { "tuples of 33 over a list", WRITE_SHAPE, 0, 2025, TUPLES "07004000 05000000",
       TUPLES "07000001 05000000", "" },
+    { "tuples of 33 over a list", SHAPE_RECORDS, 0, 2025, TUPLES "07004000 05000000",
+      TUPLES "07000001 05000000", "" },
+    { "enums of 65 over a list", SHAPE_RECORDS, 0, 146, ENUMS, CHOSEN, "" },
     { "arrays and lists in turn", RECONSTRUCT, 10, 0, "(0600ffff 07008000)*15 0600ffff 02000100",
       "(03*15 " EMPTY " 03 03 02 03*14)*15 03*15 " ZERO " 03 " ZERO " 00*465", "" },
     { "arrays of 65,535", RECONSTRUCT, 10, 0, "0600ffff*31 01000000", "03*496 00*497", "" },
@@ -304,7 +341,9 @@ static const struct question {
     { "enums of 65 over a list", PART_READ, 0, 612, ENUMS, CHOICES, "" },
     { "enums of 65 over a list", PART_EDIT, 0, 15, ENUMS, CHOICES, CHOSEN },
     { "33 options", LOWER, 4, 0, OPTIONS, "", "" },
+    { "33 options", ROOM, 4, 0, OPTIONS, "", "" },
     { "33 options", WRITE_SHAPE, 4, 0, OPTIONS, "", "" },
+    { "33 options", SHAPE_RECORDS, 4, 0, OPTIONS, "", "" },
     { "33 options", RECONSTRUCT, 4, 0, OPTIONS, "", "" },
     { "33 options", CLEAN_SHAPE, 4, 0, OPTIONS, "", "" },
     { "33 options", WRITE_FRAME, 4, 0, OPTIONS, "", "" },
@@ -319,7 +358,8 @@ static void prepare(struct call *c, const struct question *q)
     c->length = 12345;
     c->entry = entries[q->op];
     c->ty = file(q->type);
-    c->other = q->op == WRITE_SHAPE || q->op == WRITE_FRAME ? values(q->other) : file(q->other);
+    int with_value = q->op == WRITE_SHAPE || q->op == SHAPE_RECORDS || q->op == WRITE_FRAME;
+    c->other = with_value ? values(q->other) : file(q->other);
     c->value = values(q->value);
 }
 
@@ -331,7 +371,7 @@ static int answers(const struct question *q, int measure)
     prepare(&c, q);
     size_t used = ask_on(&c, c.entry.stack);
     if (measure)
-        printf("%-12s %7zu of %7zu bytes  %s\n", c.entry.name, used, c.entry.stack, q->name);
+        printf("%-13s %7zu of %7zu bytes  %s\n", c.entry.name, used, c.entry.stack, q->name);
     if (c.number != q->number || c.length != q->length)
         printf("%s, %s: the number is %u, the length %zu\n", c.entry.name, q->name,
                (unsigned)c.number, c.length);

@@ -8,7 +8,7 @@ use crate::expect::{Entry, Outcome};
 pub struct Case {
     pub entry: Entry,
     pub args: Vec<Vec<u8>>,
-    /// The buffer's length. An edit has no buffer but its frame.
+    /// The buffer's length. An edit has no buffer but its frame, an entry that only tells numbers has none: 0.
     pub room: usize,
     /// The buffer is filled with this byte, or with a pattern that begins with it.
     pub fill: u8,
@@ -19,7 +19,9 @@ pub struct Case {
 #[derive(Clone, Debug, PartialEq)]
 pub struct Answer {
     pub number: u32,
-    pub length: usize,
+    /// The other numbers of the reply: the result's length, or what an entry tells that writes nothing. All are 0 where
+    /// it is refused.
+    pub numbers: Vec<usize>,
     pub lent: Vec<u8>,
 }
 
@@ -39,15 +41,18 @@ impl Case {
         }
     }
 
-    /// The answer to an outcome: row 17 comes last, a refusal changes nothing, bytes past the end stay.
+    /// The answer to an outcome: row 17 comes last, a refusal changes nothing, bytes past the end stay. What only tells
+    /// numbers needs no buffer.
     pub fn delivered(&self, outcome: Outcome) -> Answer {
         let mut lent = self.lent();
+        let refused = |number, lent| Answer { number, numbers: vec![0; self.entry.numbers().len()], lent };
         match outcome {
-            Err(number) => Answer { number, length: 0, lent },
-            Ok(result) if result.len() > lent.len() => Answer { number: 17, length: 0, lent },
+            Err(number) => refused(number, lent),
+            Ok(result) if self.entry.only_tells() => Answer { number: 0, numbers: numbers_of(&result), lent },
+            Ok(result) if result.len() > lent.len() => refused(17, lent),
             Ok(result) => {
                 lent[..result.len()].copy_from_slice(&result);
-                Answer { number: 0, length: result.len(), lent }
+                Answer { number: 0, numbers: vec![result.len()], lent }
             }
         }
     }
@@ -59,7 +64,7 @@ impl Case {
         for (name, arg) in self.entry.arguments().iter().zip(&self.args) {
             writeln!(text, "  {name} ({} bytes) {}", arg.len(), hex(arg)).unwrap();
         }
-        if self.entry != Entry::PartEdit {
+        if self.entry != Entry::PartEdit && !self.entry.only_tells() {
             let kind = if self.plain_fill { "filled with" } else { "filled in steps of 37 from" };
             writeln!(text, "  buffer of {} bytes, {kind} {:02x}", self.room, self.fill).unwrap();
         }
@@ -68,9 +73,33 @@ impl Case {
 }
 
 impl Answer {
-    pub fn show(&self) -> String {
-        format!("number {}, length {}, lent bytes {}", self.number, self.length, hex(&self.lent))
+    /// The result's length, of an entry that writes one.
+    pub fn length(&self) -> usize {
+        self.numbers[0]
     }
+
+    pub fn show(&self, entry: Entry) -> String {
+        let mut text = format!("number {}", self.number);
+        for (name, n) in entry.numbers().iter().zip(&self.numbers) {
+            write!(text, ", {name} {n}").unwrap();
+        }
+        if !entry.only_tells() {
+            write!(text, ", lent bytes {}", hex(&self.lent)).unwrap();
+        }
+        text
+    }
+}
+
+/// Puts a number in three bytes, the highest first.
+pub fn put_number(out: &mut Vec<u8>, n: usize) {
+    assert!(n < 1 << 24, "a number has three bytes");
+    out.extend(&(n as u32).to_be_bytes()[1..]);
+}
+
+/// The numbers of three bytes each.
+pub fn numbers_of(bytes: &[u8]) -> Vec<usize> {
+    assert!(bytes.len() % 3 == 0, "a number has three bytes");
+    bytes.chunks(3).map(|three| three.iter().fold(0, |n, &b| n << 8 | b as usize)).collect()
 }
 
 pub fn hex(bytes: &[u8]) -> String {

@@ -10,7 +10,10 @@ use crate::generate::{random_case, random_room, Scale};
 use crate::library;
 use crate::pairs::pairs;
 use crate::random::Random;
+use crate::room::longest_value;
 use crate::shrink::shrink;
+use crate::types::read_type;
+use crate::values::write_value;
 
 /// So many cases that differ are shrunk and printed.
 pub const MOST_SHOWN: u64 = 3;
@@ -38,8 +41,8 @@ impl Counts {
 
 /// What went wrong with a case, if anything.
 pub enum Trouble {
-    /// The published code and the plain one differ, or the two that number a value file or a shape, or a cleaned shape or
-    /// what two edits leave is not what it must be, or one panics.
+    /// The published code and the plain one differ, or the two that number a value file or a shape, or a cleaned shape,
+    /// the room of a type or what two edits leave is not what it must be, or one panics.
     Ourselves(String),
     Library(String),
 }
@@ -65,17 +68,25 @@ pub fn expected_outcome(case: &Case) -> Result<Outcome, Trouble> {
     caught("our own", || outcome(case.entry, &case.args)).map_err(Trouble::Ourselves)
 }
 
-/// Compares the library's answer with the expected one. What it has cleaned is then fed back to it.
+/// Compares the library's answer with the expected one. What it has cleaned is then fed back to it, and the numbers
+/// that it told are the lengths of buffers.
 pub fn compare_with(case: &Case, expected: &Answer) -> Result<(), Trouble> {
     if !library::has(case.entry) {
         return Ok(());
     }
     let answer = compare_once(case, expected)?;
-    if case.entry == Entry::CleanShape && answer.number == 0 {
-        for (again, expected) in caught("our own", || fed_back(case, &answer)).map_err(Trouble::Ourselves)? {
-            let text = |trouble: Trouble| format!("what was cleaned, fed back:\n{}{}", again.show(), trouble.text());
-            compare_once(&again, &expected).map_err(|trouble| Trouble::Library(text(trouble)))?;
-        }
+    if answer.number != 0 {
+        return Ok(());
+    }
+    let after = match case.entry {
+        Entry::CleanShape => fed_back,
+        Entry::Room => in_its_room,
+        Entry::ShapeRecords => in_its_records,
+        _ => return Ok(()),
+    };
+    for (again, expected) in caught("our own", || after(case, &answer)).map_err(Trouble::Ourselves)? {
+        let text = |trouble: Trouble| format!("what was answered, fed back:\n{}{}", again.show(), trouble.text());
+        compare_once(&again, &expected).map_err(|trouble| Trouble::Library(text(trouble)))?;
     }
     Ok(())
 }
@@ -84,7 +95,7 @@ pub fn compare_with(case: &Case, expected: &Answer) -> Result<(), Trouble> {
 fn compare_once(case: &Case, expected: &Answer) -> Result<Answer, Trouble> {
     let answer = caught("library", || library::answer(case)).map_err(Trouble::Library)?;
     if answer != *expected {
-        let text = format!("expected {}\nlibrary  {}", expected.show(), answer.show());
+        let text = format!("expected {}\nlibrary  {}", expected.show(case.entry), answer.show(case.entry));
         return Err(Trouble::Library(text));
     }
     Ok(answer)
@@ -92,15 +103,46 @@ fn compare_once(case: &Case, expected: &Answer) -> Result<Answer, Trouble> {
 
 /// What must hold of a shape that the library has cleaned: it reads as the value that the earlier reading gave to the
 /// shape, and stays when it is cleaned again.
-fn fed_back(case: &Case, answer: &Answer) -> [(Case, Answer); 2] {
-    let clean = &answer.lent[..answer.length];
+fn fed_back(case: &Case, answer: &Answer) -> Vec<(Case, Answer)> {
+    let clean = &answer.lent[..answer.length()];
     let results = [(Entry::Reconstruct, value_before(&case.args)), (Entry::CleanShape, clean.to_vec())];
-    results.map(|(entry, result)| {
+    let again = |(entry, result): (Entry, Vec<u8>)| {
         let args = vec![case.args[0].clone(), clean.to_vec()];
         let again = Case { entry, args, room: result.len(), ..case.clone() };
         let expected = again.delivered(Ok(result));
         (again, expected)
-    })
+    };
+    results.into_iter().map(again).collect()
+}
+
+/// Calls with buffers that are as long as the room told: the lowered type, and the shape and the frame of a value with
+/// the longest shape, fit. Of this value as many records are told.
+fn in_its_room(case: &Case, answer: &Answer) -> Vec<(Case, Answer)> {
+    let &[lowered, bits, shape] = &answer.numbers[..] else { unreachable!("three numbers") };
+    let ty = read_type(&case.args[0]).expect("the type is accepted");
+    let value = write_value(&longest_value(&ty));
+    let file = || case.args[0].clone();
+    let calls = [
+        (Entry::Lower, vec![file()], lowered),
+        (Entry::WriteShape, vec![file(), value.clone()], shape),
+        (Entry::WriteFrame, vec![file(), value.clone()], bits.div_ceil(8)),
+        (Entry::ShapeRecords, vec![file(), value], 0),
+    ];
+    calls.into_iter().map(|(entry, args, room)| in_exactly(case, entry, args, room)).collect()
+}
+
+/// The shape of the value with a buffer that is as long as was told.
+fn in_its_records(case: &Case, answer: &Answer) -> Vec<(Case, Answer)> {
+    vec![in_exactly(case, Entry::WriteShape, case.args.clone(), answer.numbers[0])]
+}
+
+/// A call that must be accepted with this buffer, and leave none of it over.
+fn in_exactly(case: &Case, entry: Entry, args: Vec<Vec<u8>>, room: usize) -> (Case, Answer) {
+    let again = Case { entry, args, room, ..case.clone() };
+    let expected = again.delivered(outcome(entry, &again.args));
+    assert!(expected.number == 0, "a room that is told is too small");
+    assert!(entry.only_tells() || expected.length() == room, "a room that is told is too large");
+    (again, expected)
 }
 
 /// Runs one case with its buffer as it is.
@@ -128,7 +170,7 @@ impl Tally {
     ) -> Option<Outcome> {
         self.cases += 1;
         let answer = expected_outcome(case).and_then(|outcome| {
-            case.room = room(case, &outcome);
+            case.room = if case.entry.only_tells() { 0 } else { room(case, &outcome) };
             if let Some(file) = trace {
                 std::fs::write(file, case.show()).expect("the trace is written");
             }

@@ -1,6 +1,6 @@
 //! Cases written by hand with the results that 01 and 02 name, and the smallest inputs of their rows.
 
-use crate::case::Case;
+use crate::case::{put_number, Case};
 use crate::expect::Entry::{self, *};
 use crate::expect::{Outcome, ENTRIES};
 use crate::pairs::{Edit, Pair, PairEdge};
@@ -70,6 +70,21 @@ impl Edges {
 
     fn bad(&mut self, name: &'static str, entry: Entry, args: &[&[u8]], number: u32) {
         self.put(name, entry, args, 40, Err(number));
+    }
+
+    /// The numbers that an entry tells, or the number that refuses.
+    fn tell(&mut self, name: &'static str, entry: Entry, args: &[&[u8]], told: Result<&[usize], u32>) {
+        let file = |numbers: &[usize]| {
+            let mut out = vec![];
+            numbers.iter().for_each(|&n| put_number(&mut out, n));
+            out
+        };
+        self.put(name, entry, args, 0, told.map(file));
+    }
+
+    /// The records of a value's shape, or the number that refuses.
+    fn records(&mut self, name: &'static str, ty: &[u8], value: &[u8], told: Result<usize, u32>) {
+        self.tell(name, ShapeRecords, &[ty, value], told.as_ref().map(std::slice::from_ref).map_err(|&n| n));
     }
 
     /// A value file that all its entries refuse; an edit is of the whole, in a frame of zeros.
@@ -622,6 +637,187 @@ fn long_cleaned_shapes(e: &mut Edges) {
     e.put("65,536 records, one byte short", CleanShape, &[&long_type, &long], result.len() - 1, Err(17));
 }
 
+/// The room of types: records of the lowered type, bits of a frame, the most records of a shape. By hand, with L, B and
+/// S for these three of what is below:
+/// - a unit has 1, 0, 1, a Boolean 3, 1, 2;
+/// - an integer of w bits has w Booleans and w - 1 pairs: 4w - 1, w, 3w - 1;
+/// - a product of n has its parts and n - 1 pairs, with no part it is a unit;
+/// - a sum of two has a record, a bit and the sides: all of L, the larger B, the larger S;
+/// - a list bounded at b = 2^k has k blocks and k - 1 pairs; a block of m has a record, a bit and m elements; in L also
+///   a unit: (b - 1)(L + 1) + 2k - 1, (b - 1)B + k, (b - 1)(S + 1) + k - 1. An Option is one with b = 2.
+const ROOMS: [(&str, &[(u8, u16)], [usize; 3]); 71] = [
+    ("()", &[UNIT], [1, 0, 1]),
+    ("a Boolean", &[(1, 0)], [3, 1, 2]),
+    ("u1", &[(2, 1)], [3, 1, 2]),
+    ("u2", &[(2, 2)], [7, 2, 5]),
+    ("u4", &[(2, 4)], [15, 4, 11]),
+    ("u8", &[(2, 8)], [31, 8, 23]),
+    ("u16", &[(2, 16)], [63, 16, 47]),
+    ("u32", &[(2, 32)], [127, 32, 95]),
+    ("u64", &[(2, 64)], [255, 64, 191]),
+    ("u128", &[(2, 128)], [511, 128, 383]),
+    ("u256", &[(2, 256)], [1_023, 256, 767]),
+    ("Either of units", &[(3, 0), UNIT, UNIT], [3, 1, 2]),
+    ("Either u4 or bool", &CHOICE, [19, 5, 12]),
+    ("Either bool or u4", &[(3, 0), (1, 0), (2, 4)], [19, 5, 12]),
+    ("Either () or bool", &[(3, 0), UNIT, (1, 0)], [5, 2, 3]),
+    // 9 units have 17 records and no bit, a u4 has 11 and four bits.
+    ("the left longer, the right wider", &[(3, 0), (6, 9), UNIT, (2, 4)], [33, 5, 18]),
+    ("the right longer, the left wider", &[(3, 0), (2, 4), (6, 9), UNIT], [33, 5, 18]),
+    // No bits each, 7 records and 1.
+    ("as wide, the left longer", &[(3, 0), (5, 4), UNIT, UNIT, UNIT, UNIT, UNIT], [9, 1, 8]),
+    ("as wide, the right longer", &[(3, 0), UNIT, (6, 4), UNIT], [9, 1, 8]),
+    // As long each, 5 records: two bits, and three units without a bit.
+    ("as long, the left wider", &[(3, 0), (2, 2), (6, 3), UNIT], [13, 3, 6]),
+    ("as long, the right wider", &[(3, 0), (6, 3), UNIT, (2, 2)], [13, 3, 6]),
+    ("Option of ()", &[(4, 0), UNIT], [3, 1, 2]),
+    ("Option of a Boolean", &[(4, 0), (1, 0)], [5, 2, 3]),
+    ("Option of Option", &[(4, 0), (4, 0), (1, 0)], [7, 3, 4]),
+    ("Option of an array of 0", &[(4, 0), (6, 0), (1, 0)], [3, 1, 2]),
+    ("some of a longer side", &[(4, 0), (3, 0), (2, 1), (6, 4), UNIT], [13, 3, 9]),
+    ("a tuple of one", &[(5, 1), (1, 0)], [3, 1, 2]),
+    ("a tuple of two ()", &[(5, 2), UNIT, UNIT], [3, 0, 3]),
+    ("() and a Boolean", &[(5, 2), UNIT, (1, 0)], [5, 1, 4]),
+    ("three Booleans", &[(5, 3), (1, 0), (1, 0), (1, 0)], [11, 3, 8]),
+    ("tuples in a tuple", &[(5, 2), (5, 2), UNIT, UNIT, (5, 1), UNIT], [5, 0, 5]),
+    ("four parts", &[(5, 4), (1, 0), (2, 2), UNIT, (4, 0), (1, 0)], [19, 5, 14]),
+    ("an array of 0", &[(6, 0), (1, 0)], [1, 0, 1]),
+    ("an array of 0 of u256", &[(6, 0), (2, 256)], [1, 0, 1]),
+    ("an array of 0 of arrays", &[(6, 0), (6, 32_768), UNIT], [1, 0, 1]),
+    ("an array of one", &[(6, 1), (1, 0)], [3, 1, 2]),
+    ("an array of two ()", &[(6, 2), UNIT], [3, 0, 3]),
+    ("an array of three", &[(6, 3), (1, 0)], [11, 3, 8]),
+    ("an array of five u2", &[(6, 5), (2, 2)], [39, 10, 29]),
+    ("an array of lists", &[(6, 3), (7, 4), UNIT], [29, 6, 23]),
+    ("an array of arrays of 0", &[(6, 3), (6, 0), (1, 0)], [5, 0, 5]),
+    ("a list of (), bound 2", &[(7, 2), UNIT], [3, 1, 2]),
+    ("a list of (), bound 4", &[(7, 4), UNIT], [9, 2, 7]),
+    ("a list of (), bound 8", &[(7, 8), UNIT], [19, 3, 16]),
+    ("a list of (), bound 16", &[(7, 16), UNIT], [37, 4, 33]),
+    ("a list of (), bound 1,024", &[(7, 1_024), UNIT], [2_065, 10, 2_055]),
+    ("a list of (), bound 16,384", &[(7, 16_384), UNIT], [32_793, 14, 32_779]),
+    ("a list of Booleans, bound 2", &[(7, 2), (1, 0)], [5, 2, 3]),
+    ("a list of u1, bound 4", &LIST, [15, 5, 10]),
+    ("a list of u1, bound 8", &[(7, 8), (2, 1)], [33, 10, 23]),
+    ("a list of u8, bound 1,024", &[(7, 1_024), (2, 8)], [32_755, 8_194, 24_561]),
+    ("a list of Booleans, bound 8,192", &[(7, 8_192), (1, 0)], [32_789, 8_204, 24_585]),
+    ("a list of an array of 0", &[(7, 2), (6, 0), (1, 0)], [3, 1, 2]),
+    ("a list of Options", &[(7, 4), (4, 0), UNIT], [15, 5, 10]),
+    ("a list of lists", &[(7, 4), (7, 4), (1, 0)], [51, 17, 34]),
+    ("the one variant", &[(8, 1), (9, 0)], [1, 0, 1]),
+    ("the one variant, a part", &[(8, 1), (9, 1), (1, 0)], [3, 1, 2]),
+    ("the one variant, two parts", &[(8, 1), (9, 2), (1, 0), (2, 2)], [11, 3, 8]),
+    ("two variants without parts", &[(8, 2), (9, 0), (9, 0)], [3, 1, 2]),
+    ("three variants", &VARIANTS, [13, 4, 7]),
+    // Of three the first hangs alone, here a u2; () and a u1 hang under a further sum.
+    ("three variants, the first the longest", &[(8, 3), (9, 1), (2, 2), (9, 0), (9, 1), (2, 1)], [13, 3, 6]),
+    // Of five the first hangs alone, and four under two further sums: these four have 3 records.
+    ("five variants, the way is longer", &[(8, 5), (9, 1), (2, 1), (9, 0), (9, 0), (9, 0), (9, 0)], [11, 3, 4]),
+    ("five variants, a part is longer", &[(8, 5), (9, 1), (2, 2), (9, 0), (9, 0), (9, 0), (9, 0)], [15, 3, 6]),
+    // 8 units have 15 records and no bit, a u4 has 11 and four bits.
+    ("the wider variant is shorter", &[(8, 2), (9, 1), (6, 8), UNIT, (9, 1), (2, 4)], [31, 5, 16]),
+    ("the wider variant is first, and shorter", &[(8, 2), (9, 1), (2, 4), (9, 1), (6, 8), UNIT], [31, 5, 16]),
+    ("a sorting job", &JOB, [775, 196, 579]),
+    ("job's type", &PAIR, [31, 9, 22]),
+    ("32,768 units", &[(6, 32_768), UNIT], [65_535, 0, 65_535]),
+    ("16,384 Booleans", &[(6, 16_384), (1, 0)], [65_535, 16_384, 49_151]),
+    ("64 of u256", &[(6, 64), (2, 256)], [65_535, 16_384, 49_151]),
+    ("Option of 32,767 units", &[(4, 0), (6, 32_767), UNIT], [65_535, 1, 65_534]),
+];
+
+/// The room of types, and the rows before it.
+fn rooms(e: &mut Edges) {
+    for (name, records, told) in ROOMS {
+        e.tell(name, Room, &[&ty(records)], Ok(&told));
+    }
+    let options = |n: usize, inner: (u8, u16)| [vec![(4, 0); n], vec![inner]].concat();
+    e.tell("31 Options", Room, &[&ty(&options(31, (1, 0)))], Ok(&[65, 32, 33]));
+    e.tell("31 Options of ()", Room, &[&ty(&options(31, UNIT))], Ok(&[63, 31, 32]));
+    e.tell("32 Options", Room, &[&ty(&options(32, (1, 0)))], Err(4));
+    // 30 Options of a Boolean have 63, 31 and 32.
+    let largest = [vec![(6, 1_024)], options(30, (1, 0))].concat();
+    e.tell("the largest frame", Room, &[&ty(&largest)], Ok(&[65_535, 31_744, 33_791]));
+    for (name, file, number) in bad_types() {
+        e.tell(name, Room, &[&file], Err(number));
+    }
+    e.tell("32,769 units", Room, &[&ty(&[(6, 32_769), UNIT])], Err(7));
+    e.tell("16,385 Booleans", Room, &[&ty(&[(6, 16_385), (1, 0)])], Err(7));
+    e.tell("Option of 32,768 units", Room, &[&ty(&[(4, 0), (6, 32_768), UNIT])], Err(7));
+    e.tell("a list of (), bound 32,768", Room, &[&ty(&[(7, 32_768), UNIT])], Err(7));
+    e.tell("too large beside an Option", Room, &[&ty(&[(5, 2), (4, 0), UNIT, (6, 65_535), (1, 0)])], Err(7));
+}
+
+/// Type files of a thousand records.
+fn long_rooms(e: &mut Edges) {
+    e.tell("1,025 records", Room, &[&ty(&[(1, 0); 1_025])], Err(2));
+    e.tell("1,025 records, the first bad", Room, &[&ty(&[(10, 0); 1_025])], Err(2));
+    // 1,023 parts and 1,022 pairs or sums; of 1,023 the deepest hangs under ten sums.
+    let many = |kind: u8, leaf| ty(&[vec![(kind, 1_023)], vec![leaf; 1_023]].concat());
+    e.tell("1,023 units", Room, &[&many(5, UNIT)], Ok(&[2_045, 0, 2_045]));
+    e.tell("1,023 of u4", Room, &[&many(5, (2, 4))], Ok(&[16_367, 4_092, 12_275]));
+    e.tell("1,023 variants", Room, &[&many(8, (9, 0))], Ok(&[2_045, 10, 11]));
+}
+
+/// The records of a shape: as many as each shape written by hand has, and the rows of `write_shape` before 17.
+fn shape_records(e: &mut Edges) {
+    let mut seen = vec![];
+    let mut before = Edges(vec![]);
+    for part in [along_the_edges, type_rows, other_rows, faults_of_a_pair, faults_of_kinds] {
+        part(&mut before);
+    }
+    for Edge { name, case, expected } in before.0 {
+        if case.entry == WriteShape && expected != Err(17) && !seen.contains(&case.args) {
+            e.records(name, &case.args[0], &case.args[1], expected.map(|shape| shape.len()));
+            seen.push(case.args);
+        }
+    }
+    for (name, records, shape, value) in WITH_UNITS {
+        let has = |record| records.contains(&record);
+        let refused = if has((0, 0)) { Some(6) } else { has((6, 32_769)).then_some(7) };
+        e.records(name, &ty(records), &val(value), refused.map_or(Ok(digits(shape).len()), Err));
+    }
+    // Two pairs join the blocks of four, two and one; an empty block has two records, one of n units a right and
+    // 2n - 1.
+    for (n, told) in [8, 8, 10, 10, 14, 14, 16, 16].into_iter().enumerate() {
+        let value = [vec![(7, 0, n as u16, 0)], vec![NOTHING; n]].concat();
+        e.records("a list of (), bound 8", &ty(&[(7, 8), UNIT]), &val(&value), Ok(told));
+    }
+    // Two records a bit and the pairs, whatever the integer is.
+    for (bits, told) in [(1, 2), (2, 5), (4, 11), (8, 23), (16, 47), (32, 95), (64, 191), (128, 383), (256, 767)] {
+        for n in [0, 1] {
+            e.records("an integer", &ty(&[(2, bits)]), &val(&[(2, 0, bits, n)]), Ok(told));
+        }
+    }
+    // A left and 17 records of units, a right and 11 of a u4.
+    let sides = ty(&[(3, 0), (6, 9), UNIT, (2, 4)]);
+    let units = [vec![(3, 0, 0, 0), (6, 0, 9, 0)], vec![NOTHING; 9]].concat();
+    e.records("the longer side", &sides, &val(&units), Ok(18));
+    e.records("the shorter side", &sides, &val(&[(3, 1, 0, 0), (2, 0, 4, 9)]), Ok(12));
+    // 2 pairs, 23 of the u8, 2 of the none; of the hits 2 pairs, 2 of each empty block, 1 + 71 of a block of one.
+    let job = |all: &[(u16, u16)]| {
+        let none = val(&[(4, 0, 0, 0)]);
+        [val(&[(5, 0, 3, 0)]), integer(8, 0x2a), hits(all), none].concat()
+    };
+    e.records("a sorting job, no hits", &ty(&JOB), &job(&[]), Ok(35));
+    e.records("a sorting job, a hit", &ty(&JOB), &job(&[(0x1234, 0x56)]), Ok(105));
+    e.records("a hit's kind too large", &ty(&JOB), &job(&[(1, 256)]), Err(21));
+    e.records("eight hits", &ty(&JOB), &job(&[(1, 1); 8]), Err(22));
+    e.records("no such density", &ty(&JOB), &job(&[])[..108], Err(16));
+    e.records("half a density", &ty(&JOB), &job(&[])[..143], Err(15));
+}
+
+/// Long value files and shapes.
+fn long_shape_records(e: &mut Edges) {
+    e.records("1,025 records", &ty(&[(1, 0); 1_025]), &[], Err(2));
+    let zeros = val(&[vec![(6, 0, 64, 0)], vec![(2, 0, 256, 0); 64]].concat());
+    e.records("64 of u256", &ty(&[(6, 64), (2, 256)]), &zeros, Ok(49_151));
+    e.records("63 of u256", &ty(&[(6, 64), (2, 256)]), &zeros[..36 * 64], Err(16));
+    // 7 pairs join the blocks of 128, 64 .. 1; one of n units has a right and 2n - 1.
+    let full = val(&[vec![(7, 0, 255, 0)], vec![NOTHING; 255]].concat());
+    e.records("255 elements, bound 256", &ty(&[(7, 256), UNIT]), &full, Ok(517));
+    e.records("255 elements, bound 128", &ty(&[(7, 128), UNIT]), &full, Err(22));
+}
+
 /// A chain of n records.
 fn lefts(n: usize) -> Vec<u8> {
     [vec![1; n - 1], vec![0]].concat()
@@ -665,9 +861,10 @@ fn long_ones(e: &mut Edges) {
     e.put("an array of 32,768 units, one byte short", Lower, &[&array], 65_534, Err(17));
 }
 
-/// The cases of the first seven entries, then those of the one that came later, so that the first stay as they are.
-pub fn edges() -> [Group; 2] {
+/// The cases of the first seven entries, then those of the ones that came later, so that those before stay as they are.
+pub fn edges() -> [Group; 3] {
     let (entries, later) = ENTRIES.split_at(7);
+    let (cleaning, telling) = later.split_at(1);
     let of = |parts: &[fn(&mut Edges)]| {
         let mut all = Edges(vec![]);
         parts.iter().for_each(|part| part(&mut all));
@@ -684,7 +881,8 @@ pub fn edges() -> [Group; 2] {
     ]);
     [
         Group { entries, short, long: of(&[long_ones]) },
-        Group { entries: later, short: of(&[cleaned_shapes]), long: of(&[long_cleaned_shapes]) },
+        Group { entries: cleaning, short: of(&[cleaned_shapes]), long: of(&[long_cleaned_shapes]) },
+        Group { entries: telling, short: of(&[rooms, shape_records]), long: of(&[long_rooms, long_shape_records]) },
     ]
 }
 

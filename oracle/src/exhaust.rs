@@ -2,10 +2,11 @@
 
 use std::collections::BTreeSet;
 
-use crate::case::Case;
-use crate::compare::Tally;
+use crate::case::{hex, Case};
+use crate::compare::{caught, Tally};
 use crate::expect::{Entry, Outcome};
 use crate::paths::follow;
+use crate::room::try_all_values;
 use crate::spoil::all_spoiled;
 use crate::types::{check_lowering, read_type, write_type, Ty};
 use crate::values::{read_value, reconstruct, write_value};
@@ -20,6 +21,9 @@ const MENU: [(u8, u8); 21] = [
 /// Frames, values and paths of one type are tried up to these counts.
 const MOST_FRAMES: usize = 300;
 const MOST_NEW: usize = 12;
+
+/// Every value of a type with at most so many is tried for its room.
+const MOST_VALUES: u64 = 70_000;
 
 /// All trees of exactly n records, for each n up to `most`.
 fn trees(most: usize) -> Vec<Vec<Vec<u8>>> {
@@ -44,13 +48,17 @@ struct Run {
     count: usize,
     /// Paths and the part's types for which values with faults were tried, of one type.
     tried: BTreeSet<(Vec<u8>, Vec<u8>)>,
+    /// Types of which every value was tried, these values, and whether the room of the types holds for them.
+    types: u64,
+    values: u64,
+    all_hold: bool,
 }
 
 impl Run {
     /// Runs a case with an exact buffer; every third one is a byte short, every fifth has room. Every fourth one that
-    /// cleans is as long as the shape.
+    /// cleans is as long as the shape. Those that have none are not counted for it.
     fn case(&mut self, entry: Entry, args: &[&[u8]]) -> Option<Outcome> {
-        self.count += 1;
+        self.count += !entry.only_tells() as usize;
         let count = self.count;
         let args = args.iter().map(|a| a.to_vec()).collect();
         let mut case = Case { entry, args, room: 0, fill: count as u8, plain_fill: false };
@@ -77,14 +85,17 @@ impl Run {
             return;
         }
         let mut frames = BTreeSet::new();
+        self.all_values(file, ty);
         for value in &values {
             self.case(Entry::WriteShape, &[file, value]);
+            self.case(Entry::ShapeRecords, &[file, value]);
             if let Some(Ok(frame)) = self.case(Entry::WriteFrame, &[file, value]) {
                 frames.insert(frame);
             }
             let val = read_value(ty, value).expect("the value was read");
             for bad in all_spoiled(ty, &val) {
                 self.case(Entry::WriteShape, &[file, &bad]);
+                self.case(Entry::ShapeRecords, &[file, &bad]);
                 self.case(Entry::WriteFrame, &[file, &bad]);
             }
         }
@@ -92,6 +103,20 @@ impl Run {
         for frame in all_frames(&frames) {
             if let Some(Ok(value)) = self.case(Entry::ReadFrame, &[file, &frame]) {
                 self.parts(file, ty, &frame, &value, shapes);
+            }
+        }
+    }
+
+    /// Every value of a type that has not too many, for its room.
+    fn all_values(&mut self, file: &[u8], ty: &Ty) {
+        match caught("our own", || try_all_values(ty, MOST_VALUES)) {
+            Ok(n) => {
+                self.types += (n > 0) as u64;
+                self.values += n;
+            }
+            Err(text) => {
+                println!("DIFFERS type {}\n{text}\n", hex(file));
+                self.all_hold = false;
             }
         }
     }
@@ -149,17 +174,20 @@ fn all_frames(frames: &BTreeSet<Vec<u8>>) -> BTreeSet<Vec<u8>> {
 /// Runs every type file of up to so many records with every shape of up to so many; true if nothing differs.
 pub fn exhaust(records: usize, nodes: usize) -> bool {
     let shapes = trees(nodes).concat();
-    let mut run = Run { tally: Tally::default(), count: 0, tried: BTreeSet::new() };
+    let mut run =
+        Run { tally: Tally::default(), count: 0, tried: BTreeSet::new(), types: 0, values: 0, all_hold: true };
     let mut files: Vec<Vec<u8>> = vec![vec![]];
     for _ in 0..records {
         let longer = files.iter().flat_map(|f| MENU.map(|(kind, n)| [&f[..], &[kind, 0, 0, n]].concat()));
         files = longer.collect();
         for file in &files {
             run.case(Entry::Lower, &[file]);
+            run.case(Entry::Room, &[file]);
             if let Ok(ty) = read_type(file) {
                 run.sound_type(file, &ty, &shapes);
             }
         }
     }
-    run.tally.finish()
+    println!("room: of {} types every value was tried, {} in all", run.types, run.values);
+    run.tally.finish() && run.all_hold
 }

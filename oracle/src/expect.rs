@@ -1,8 +1,10 @@
 //! What each entry answers: the rows in the order of 01 and 02, the published code where it decides, the second writer for frames.
 
+use crate::case::put_number;
 use crate::first_fault;
 use crate::frames::{self, Lowered};
 use crate::paths::{self, follow, Part};
+use crate::room::{self, Room};
 use crate::rust;
 use crate::spots::{self, Met};
 use crate::types::{self, all_small, check_lowering, lowering_work, read_type, without_never, Ty};
@@ -19,9 +21,11 @@ pub enum Entry {
     PartRead = 6,
     PartEdit = 7,
     CleanShape = 8,
+    Room = 9,
+    ShapeRecords = 10,
 }
 
-pub const ENTRIES: [Entry; 8] = [
+pub const ENTRIES: [Entry; 10] = [
     Entry::Lower,
     Entry::WriteShape,
     Entry::Reconstruct,
@@ -30,6 +34,8 @@ pub const ENTRIES: [Entry; 8] = [
     Entry::PartRead,
     Entry::PartEdit,
     Entry::CleanShape,
+    Entry::Room,
+    Entry::ShapeRecords,
 ];
 
 impl Entry {
@@ -43,7 +49,23 @@ impl Entry {
             Entry::PartRead => "part_read",
             Entry::PartEdit => "part_edit",
             Entry::CleanShape => "clean_shape",
+            Entry::Room => "room",
+            Entry::ShapeRecords => "shape_records",
         }
+    }
+
+    /// The names of the numbers that its reply has beside the first.
+    pub fn numbers(self) -> &'static [&'static str] {
+        match self {
+            Entry::Room => &["lowered", "bits", "shape"],
+            Entry::ShapeRecords => &["records"],
+            _ => &["length"],
+        }
+    }
+
+    /// Does it only tell numbers, so that nothing is lent to it?
+    pub fn only_tells(self) -> bool {
+        matches!(self, Entry::Room | Entry::ShapeRecords)
     }
 
     /// Does it read a shape? The type need not lower for it.
@@ -54,8 +76,8 @@ impl Entry {
     /// The names of the arguments, without the buffer.
     pub fn arguments(self) -> &'static [&'static str] {
         match self {
-            Entry::Lower => &["type"],
-            Entry::WriteShape | Entry::WriteFrame => &["type", "value"],
+            Entry::Lower | Entry::Room => &["type"],
+            Entry::WriteShape | Entry::WriteFrame | Entry::ShapeRecords => &["type", "value"],
             Entry::Reconstruct | Entry::CleanShape => &["type", "shape"],
             Entry::ReadFrame => &["type", "frame"],
             Entry::PartRead => &["type", "frame", "path"],
@@ -64,7 +86,8 @@ impl Entry {
     }
 }
 
-/// A result, or the number of the row that refuses.
+/// A result, or the number of the row that refuses. The result of an entry that only tells numbers are these, in three
+/// bytes each.
 pub type Outcome = Result<Vec<u8>, u32>;
 
 /// Every number is below this.
@@ -75,7 +98,7 @@ const MOST_WORK: usize = 1 << 22;
 
 /// What an entry answers with a buffer that is long enough.
 /// It panics where the published code and the plain one differ, or the two that number a value file or a shape, or where
-/// a cleaned shape is not what it must be.
+/// a cleaned shape or the room of a type is not what it must be.
 pub fn outcome(entry: Entry, args: &[Vec<u8>]) -> Outcome {
     let ty = read_type(&args[0])?;
     if entry.reads_shape() {
@@ -88,7 +111,9 @@ pub fn outcome(entry: Entry, args: &[Vec<u8>]) -> Outcome {
     check_lowering(&ty)?;
     match entry {
         Entry::Lower => Ok(lowered(&ty)),
-        Entry::WriteShape => Ok(shaped(&ty, &valued(&ty, &args[1])?)),
+        Entry::Room => Ok(room::told(&ty).file()),
+        Entry::WriteShape => Ok(shaped_within(&ty, &valued(&ty, &args[1])?)),
+        Entry::ShapeRecords => Ok(records_told(&shaped_within(&ty, &valued(&ty, &args[1])?))),
         Entry::WriteFrame => Ok(framed(&ty, &valued(&ty, &args[1])?)),
         Entry::ReadFrame => Ok(write_value(&unframed(&ty, &args[1])?)),
         Entry::PartRead => part_read(&ty, &args[1], &args[2]),
@@ -117,6 +142,23 @@ pub fn shaped(ty: &Ty, val: &Val) -> Vec<u8> {
     let told = rust::shape(ty, val);
     assert!(told == values::shape(ty, val), "shapes differ");
     told
+}
+
+/// The shape of a value. It has no more records than the type's room says, and its frame as many bits.
+fn shaped_within(ty: &Ty, val: &Val) -> Vec<u8> {
+    let shape = shaped(ty, val);
+    let records = lowered(ty);
+    let room = Room::of(&records);
+    assert!(shape.len() <= room.shape, "a shape has more records than the most that is told");
+    assert!(frames::bits(&Lowered::new(&records), &shape).len() == room.bits, "a frame has not the bits that are told");
+    shape
+}
+
+/// The number of a shape's records, as a result.
+fn records_told(shape: &[u8]) -> Vec<u8> {
+    let mut out = vec![];
+    put_number(&mut out, shape.len());
+    out
 }
 
 /// A shape by the earlier reading, before R-5: what is met in it, its value and the cleaned shape, or row 10. The cleaned
@@ -230,7 +272,7 @@ pub fn value_file(entry: Entry, args: &[Vec<u8>]) -> Option<(Ty, Vec<u8>)> {
     let ty = read_type(&args[0]).ok()?;
     check_lowering(&ty).ok()?;
     match entry {
-        Entry::WriteShape | Entry::WriteFrame => Some((ty, args[1].clone())),
+        Entry::WriteShape | Entry::WriteFrame | Entry::ShapeRecords => Some((ty, args[1].clone())),
         Entry::PartEdit => {
             let old = unframed(&ty, &args[1]).ok()?;
             let part = follow(&ty, &old, &args[2]).ok()?;

@@ -11,10 +11,10 @@ use crate::expect::{
 use crate::first_fault::faults;
 use crate::paths::{follow, width};
 use crate::spots::{met, with_units, Spot};
-use crate::types::{check_lowering, read_type, write_type, Ty};
+use crate::types::{check_lowering, read_type, split, write_type, Ty};
 use crate::values::{read_value, write_value, Val};
 
-pub const FAULTS: [&str; 40] = [
+pub const FAULTS: [&str; 54] = [
     "no fault",
     "an exact buffer is too short",
     "a length is one too long",
@@ -51,14 +51,31 @@ pub const FAULTS: [&str; 40] = [
     "cleaning leaves an array of 0 as it is",
     "cleaning refuses a type that does not lower",
     "cleaning refuses a buffer before it reads the shape",
+    "the most records of a list are told with all its blocks empty",
+    "the most records of a sum are told of its wider side",
+    "the most records of a sum are told of its narrower side",
+    "the most records of a product have a pair too many",
+    "the most records of an enum of one variant have a sum",
+    "the most records of an array of 0 have those of an element",
+    "a type that lowers to too much is accepted with 65,537",
+    "a type that lowers to too much is refused, but 65,537 is told",
+    "the bits of a frame are told to the end of its last byte",
+    "the records of the lowered type and of a shape are exchanged",
+    "a refusal leaves the last number as it was",
+    "the most records of the type are told for a value's shape",
+    "the records of the value's file are told for its shape",
+    "the shape's records of a list are told without the elements after its first block",
     "an edit of what an edit left puts back all around its part as it was before that one",
     "an edit of what an edit left counts the records as they were before that one",
     "a second edit of the same part is refused",
     "an edit to the value that is there is refused",
 ];
 
+/// The faults from here on are those of the entries that only tell numbers.
+const FIRST_OF_ROOM: usize = 36;
+
 /// The faults from here on are those of two edits on one frame.
-pub const FIRST_OF_PAIRS: usize = 36;
+pub const FIRST_OF_PAIRS: usize = 50;
 
 /// The accepted edit before this call: its arguments and what it left.
 static EDIT_BEFORE: Mutex<Option<(Vec<Vec<u8>>, Vec<u8>)>> = Mutex::new(None);
@@ -75,17 +92,19 @@ pub fn answer(case: &Case) -> Answer {
     let fault = FAULT.load(Ordering::Relaxed);
     let right = outcome(case.entry, &case.args);
     let mut answer = case.delivered(right.clone());
+    let lends = !case.entry.only_tells();
     match fault {
-        1 if answer.number == 0 && answer.length == case.room && case.entry != Entry::PartEdit => {
+        1 if lends && answer.number == 0 && answer.length() == case.room && case.entry != Entry::PartEdit => {
             case.delivered(Err(17))
         }
-        2 if answer.length > 2 => Answer { length: answer.length + 1, ..answer },
+        2 if lends && answer.length() > 2 => Answer { numbers: vec![answer.length() + 1], ..answer },
         3 if answer.number > 13 => {
             answer.lent.fill(0);
             answer
         }
-        4 if answer.number == 0 => {
-            answer.lent[answer.length..].fill(0);
+        4 if lends && answer.number == 0 => {
+            let end = answer.length();
+            answer.lent[end..].fill(0);
             answer
         }
         5 if case.entry == Entry::WriteShape => case.delivered(blanked(case).unwrap_or(right)),
@@ -119,14 +138,19 @@ pub fn answer(case: &Case) -> Answer {
             answer
         }
         28 if case.entry == Entry::CleanShape && matches!(answer.number, 10 | 17) => {
-            Answer { length: written_early(case).len(), ..answer }
+            Answer { numbers: vec![written_early(case).len()], ..answer }
         }
         29 if case.entry == Entry::CleanShape && answer.number == 0 => {
-            let end = case.args[1].len().min(answer.lent.len());
-            answer.lent[answer.length..end.max(answer.length)].fill(0);
+            let (end, most) = (answer.length(), case.args[1].len().min(answer.lent.len()));
+            answer.lent[end..most.max(end)].fill(0);
             answer
         }
-        23..FIRST_OF_PAIRS if case.entry == Entry::CleanShape => {
+        FIRST_OF_ROOM..FIRST_OF_PAIRS if !lends => {
+            let numbers = mistold(case, fault, &answer);
+            let number = if fault == 42 && answer.number == 7 { 0 } else { answer.number };
+            Answer { number, numbers: numbers.unwrap_or(answer.numbers), ..answer }
+        }
+        23..FIRST_OF_ROOM if case.entry == Entry::CleanShape => {
             case.delivered(miscleaned(case, fault, &right).unwrap_or(right))
         }
         FIRST_OF_PAIRS.. if case.entry == Entry::PartEdit && right.is_ok() => {
@@ -145,15 +169,15 @@ pub fn answer(case: &Case) -> Answer {
 /// What one of the faults of two edits makes of an accepted one, where it matters. All but the last are those of an edit
 /// of what the edit before has left.
 fn misedited(case: &Case, fault: usize, right: &Outcome, before: Option<(Vec<Vec<u8>>, Vec<u8>)>) -> Option<Outcome> {
-    if fault == 39 {
+    if fault == FIRST_OF_PAIRS + 3 {
         let there = outcome(Entry::PartRead, &case.args[..3]);
         return (there.as_ref() == Ok(&case.args[3])).then_some(Err(16));
     }
     let (args, _) = before.filter(|(args, left)| args[0] == case.args[0] && *left == case.args[1])?;
     let ty = read_type(&case.args[0]).ok()?;
     let (earlier, old) = (unframed(&ty, &args[1]).ok()?, unframed(&ty, &case.args[1]).ok()?);
-    match fault {
-        36 => {
+    match fault - FIRST_OF_PAIRS {
+        0 => {
             let part = follow(&ty, &old, &case.args[2]).ok()?;
             let mut frame = args[1].clone();
             for i in part.bit..part.bit + width(part.ty) {
@@ -162,7 +186,7 @@ fn misedited(case: &Case, fault: usize, right: &Outcome, before: Option<(Vec<Vec
             }
             Some(Ok(frame))
         }
-        37 => {
+        1 => {
             let part = follow(&ty, &earlier, &case.args[2]).ok()?;
             let stretch = stretch_of_file(&part);
             let mut file = write_value(&old);
@@ -172,8 +196,91 @@ fn misedited(case: &Case, fault: usize, right: &Outcome, before: Option<(Vec<Vec
             file.splice(stretch, case.args[3].iter().copied());
             Some(read_value(&ty, &file).map(|val| framed(&ty, &val)))
         }
-        38 => (args[2] == case.args[2]).then_some(Err(14)),
+        2 => (args[2] == case.args[2]).then_some(Err(14)),
         _ => None,
+    }
+}
+
+/// The numbers that one of the faults of room and of a shape's records tells, where it matters.
+fn mistold(case: &Case, fault: usize, answer: &Answer) -> Option<Vec<usize>> {
+    let told = answer.numbers.clone();
+    if fault == 46 && answer.number != 0 {
+        return Some([&told[1..], &[0xdead_beef]].concat());
+    }
+    if matches!(fault, 42 | 43) && answer.number == 7 {
+        return Some(vec![65_537; told.len()]);
+    }
+    if answer.number != 0 {
+        return None;
+    }
+    let ty = read_type(&case.args[0]).ok()?;
+    match (case.entry, fault) {
+        (Entry::Room, 36..=41) => Some(vec![told[0], told[1], most(&ty, fault).records]),
+        (Entry::Room, 44) => Some(vec![told[0], told[1].next_multiple_of(8), told[2]]),
+        (Entry::Room, 45) => Some(vec![told[2], told[1], told[0]]),
+        (Entry::ShapeRecords, 47) => Some(vec![most(&ty, fault).records]),
+        (Entry::ShapeRecords, 48) => Some(vec![case.args[1].len() / 36]),
+        (Entry::ShapeRecords, 49) => blanked(case)?.ok().map(|shape| vec![shape.len()]),
+        _ => None,
+    }
+}
+
+/// The most records of a shape, and the bits of a frame.
+#[derive(Clone, Copy)]
+struct Most {
+    records: usize,
+    bits: usize,
+}
+
+/// These of a type, kind by kind, with one of the faults.
+fn most(ty: &Ty, fault: usize) -> Most {
+    let unit = Most { records: 1, bits: 0 };
+    let all = |types: &[Ty]| most_of_product(&types.iter().map(|t| most(t, fault)).collect::<Vec<_>>(), fault);
+    match ty {
+        Ty::Never => unit,
+        Ty::Bool => Most { records: 2, bits: 1 },
+        Ty::UInt(bits) => most_of_product(&vec![Most { records: 2, bits: 1 }; *bits], fault),
+        Ty::Either(l, r) => most_of_sum(&[most(l, fault), most(r, fault)], fault),
+        Ty::Option(t) => most_of_sum(&[unit, most(t, fault)], fault),
+        Ty::Tuple(types) => all(types),
+        Ty::Array(0, t) if fault == 41 => Most { bits: 0, ..most(t, fault) },
+        Ty::Array(n, t) => most_of_product(&vec![most(t, fault); *n], fault),
+        Ty::List(bound, t) => most_of_list(*bound, most(t, fault), fault),
+        Ty::Enum(variants) => {
+            let sum = most_of_sum(&variants.iter().map(|types| all(types)).collect::<Vec<_>>(), fault);
+            Most { records: sum.records + (fault == 40 && variants.len() == 1) as usize, ..sum }
+        }
+    }
+}
+
+fn most_of_product(parts: &[Most], fault: usize) -> Most {
+    let pairs = parts.len().saturating_sub(1);
+    let more = (fault == 39 && pairs > 0) as usize;
+    let records = parts.iter().map(|part| part.records).sum::<usize>().max(1);
+    Most { records: records + pairs + more, bits: parts.iter().map(|part| part.bits).sum() }
+}
+
+fn most_of_sum(sides: &[Most], fault: usize) -> Most {
+    if let [one] = sides {
+        return *one;
+    }
+    let (left, right) = sides.split_at(split(sides.len()));
+    let [l, r] = [left, right].map(|sides| most_of_sum(sides, fault));
+    let (narrow, wide) = if l.bits < r.bits { (l, r) } else { (r, l) };
+    let records = match fault {
+        37 => wide.records,
+        38 => narrow.records,
+        _ => l.records.max(r.records),
+    };
+    Most { records: 1 + records, bits: 1 + wide.bits }
+}
+
+fn most_of_list(bound: usize, element: Most, fault: usize) -> Most {
+    let block = most_of_product(&vec![element; bound / 2], fault);
+    let some = Most { records: 1 + if fault == 36 { 1 } else { block.records }, bits: 1 + block.bits };
+    match bound {
+        2 => some,
+        _ => most_of_product(&[some, most_of_list(bound / 2, element, fault)], fault),
     }
 }
 

@@ -1,4 +1,5 @@
-//! The second frame writer and reader. It knows lowered types and shapes only, as 01 defines frames over them.
+//! The second frame writer and reader. It knows lowered types and shapes only, as 01 defines frames over them. So does
+//! the count of the most records that a shape can have.
 
 /// A lowered type with the end and the width of the tree at each record.
 pub struct Lowered<'a> {
@@ -37,12 +38,34 @@ impl<'a> Lowered<'a> {
     }
 }
 
+/// The most records of a shape over a lowered type, from its last record to its first: one for a unit, one and the
+/// longer side for a sum, one and both sides for a product.
+pub fn longest(records: &[u8]) -> usize {
+    let mut behind: Vec<usize> = vec![];
+    for kind in records.iter().rev() {
+        let most = match kind {
+            0 => 1,
+            _ => {
+                let [left, right] = [(); 2].map(|()| behind.pop().expect("a tree"));
+                1 + if *kind == 1 { left.max(right) } else { left + right }
+            }
+        };
+        behind.push(most);
+    }
+    behind.pop().expect("a tree")
+}
+
 /// Writes the frame of a shape that belongs to the type.
 pub fn write(ty: &Lowered, shape: &[u8]) -> Vec<u8> {
+    pack(&bits(ty, shape))
+}
+
+/// The bits of that frame.
+pub fn bits(ty: &Lowered, shape: &[u8]) -> Vec<bool> {
     let mut bits = vec![];
     let end = put(ty, 0, shape, 0, &mut bits);
     assert_eq!((end, bits.len()), (shape.len(), ty.width()));
-    pack(&bits)
+    bits
 }
 
 fn put(ty: &Lowered, t: usize, shape: &[u8], s: usize, bits: &mut Vec<bool>) -> usize {

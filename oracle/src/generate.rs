@@ -5,6 +5,7 @@ use crate::expect::{Entry, Outcome};
 use crate::frames::{self, Lowered};
 use crate::paths::follow;
 use crate::random::Random;
+use crate::room::Room;
 use crate::spoil::spoiled;
 use crate::types::{check_lowering, lower, size, write_type, Ty};
 use crate::values::{shape, shape_over, write_value, Val};
@@ -173,6 +174,21 @@ fn beyond(r: &mut Random, k: &Kinds) -> Ty {
     ty
 }
 
+/// A choice between a type and units, which have about as many records as a longest shape of it, and no bits.
+fn beside_units(r: &mut Random, ty: Ty) -> Ty {
+    if check_lowering(&ty).is_err() || size(&ty) > 4_000 {
+        return ty;
+    }
+    let n = Room::of(&lower(&ty)).shape / 2 + r.below(4);
+    let units = Ty::Array(n, boxed(unit()));
+    match r.below(4) {
+        0 => Ty::Either(boxed(ty), boxed(units)),
+        1 => Ty::Either(boxed(units), boxed(ty)),
+        2 => Ty::Enum(vec![vec![ty], vec![units]]),
+        _ => Ty::Enum(vec![vec![units], vec![], vec![ty, Ty::Bool]]),
+    }
+}
+
 /// Around 1,024 records.
 fn long(r: &mut Random) -> Ty {
     let n = r.between(1_020, 1_025) - 1;
@@ -187,7 +203,7 @@ fn long(r: &mut Random) -> Ty {
 
 pub fn random_type(r: &mut Random, entry: Entry, scale: Scale) -> Ty {
     let never = r.pick(&[0, 0, 0, 0, 0, 0, 0, 0, 5, 20]);
-    let units = if entry.reads_shape() { r.pick(&[20, 60]) } else { 20 };
+    let units = if entry.reads_shape() || entry.only_tells() { r.pick(&[20, 60]) } else { 20 };
     let small = scale == Scale::Small;
     let k = Kinds { never, units, bounds: r.pick(&[3, 3, 3, 6, 9]), bits: r.pick(&[5, 5, 9]) };
     if !small {
@@ -632,8 +648,9 @@ fn damage_argument(r: &mut Random, name: &str, bytes: &mut Vec<u8>, value: Optio
 /// The arguments, and the value of the value file with its type, if there is one.
 fn sound_arguments(r: &mut Random, entry: Entry, scale: Scale) -> (Vec<Vec<u8>>, Option<(Ty, Val)>) {
     let ty = random_type(r, entry, scale);
+    let ty = if entry.only_tells() && r.percent(12) { beside_units(r, ty) } else { ty };
     let file = write_type(&ty);
-    if entry == Entry::Lower {
+    if entry.arguments().len() == 1 {
         return (vec![file], None);
     }
     // Sometimes the rest is made for another type.
@@ -642,7 +659,7 @@ fn sound_arguments(r: &mut Random, entry: Entry, scale: Scale) -> (Vec<Vec<u8>>,
     let mut args = vec![file];
     match entry {
         Entry::Reconstruct | Entry::CleanShape => args.push(random_shape(r, entry, &ty, val.as_ref(), scale)),
-        Entry::WriteShape | Entry::WriteFrame => {
+        Entry::WriteShape | Entry::WriteFrame | Entry::ShapeRecords => {
             args.push(val.as_ref().map(write_value).unwrap_or_else(|| random_bytes(r, 80)));
             return (args, val.map(|val| (ty, val)));
         }
@@ -688,9 +705,11 @@ pub fn random_case_of(r: &mut Random, entry: Entry, scale: Scale) -> Case {
     Case { entry, args, room: 0, fill: r.byte(), plain_fill: false }
 }
 
-/// The buffer's length: exact, one short, empty or roomy; for a cleaned shape often no longer than the shape was.
+/// The buffer's length: exact, one short, empty or roomy; for a cleaned shape often no longer than the shape was. None
+/// is lent to what only tells numbers.
 pub fn random_room(r: &mut Random, case: &Case, outcome: &Outcome) -> usize {
     match outcome {
+        _ if case.entry.only_tells() => 0,
         Ok(result) if case.entry == Entry::CleanShape && r.percent(30) => r.between(result.len(), case.args[1].len()),
         Ok(result) => match r.below(10) {
             0..=4 => result.len(),

@@ -48,8 +48,8 @@ fn types() -> Vec<(&'static str, Ty)> {
 fn arguments(r: &mut Random, entry: Entry, ty: &Ty, val: &Val) -> Vec<Vec<u8>> {
     let file = write_type(ty);
     match entry {
-        Entry::Lower => vec![file],
-        Entry::WriteShape | Entry::WriteFrame => vec![file, write_value(val)],
+        Entry::Lower | Entry::Room => vec![file],
+        Entry::WriteShape | Entry::WriteFrame | Entry::ShapeRecords => vec![file, write_value(val)],
         Entry::Reconstruct | Entry::CleanShape => vec![file, shape(ty, val)],
         Entry::ReadFrame => vec![file, framed(ty, val)],
         _ => {
@@ -83,7 +83,9 @@ fn bad_arguments(r: &mut Random, entry: Entry, ty: &Ty, val: &Val) -> Vec<Vec<Ve
     let file = write_type(ty);
     let bad_values = |r: &mut Random| spoiled(r, ty, val).into_iter();
     match entry {
-        Entry::WriteShape | Entry::WriteFrame => bad_values(r).map(|bad| vec![file.clone(), bad]).collect(),
+        Entry::WriteShape | Entry::WriteFrame | Entry::ShapeRecords => {
+            bad_values(r).map(|bad| vec![file.clone(), bad]).collect()
+        }
         Entry::PartEdit => bad_values(r).map(|bad| vec![file.clone(), framed(ty, val), vec![], bad]).collect(),
         Entry::Reconstruct | Entry::CleanShape => {
             shapes_without_units(r, ty, val).into_iter().map(|bad| vec![file.clone(), bad]).collect()

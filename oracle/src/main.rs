@@ -16,6 +16,7 @@ mod pairs;
 mod paths;
 mod random;
 mod record;
+mod room;
 mod rust;
 mod shrink;
 mod spoil;

@@ -2,7 +2,7 @@
 
 use std::collections::HashSet;
 
-use crate::case::{hex, Answer, Case};
+use crate::case::{hex, numbers_of, put_number, Answer, Case};
 use crate::compare::{compare_with, expected_outcome};
 use crate::edges::{edges, Edge};
 use crate::expect::{Entry, ENTRIES, NUMBERS};
@@ -18,10 +18,15 @@ const BYTES: usize = 1_000_000;
 /// So many cases of each entry and number are taken before others are.
 const ENOUGH: usize = 12;
 
-/// A number in three bytes, the highest first.
-fn put_number(out: &mut Vec<u8>, n: usize) {
-    assert!(n < 1 << 24, "a number has three bytes");
-    out.extend(&(n as u32).to_be_bytes()[1..]);
+/// The result as it is recorded: empty where refused; the numbers of an entry that only tells them.
+fn result(case: &Case, answer: &Answer) -> Vec<u8> {
+    let mut told = vec![];
+    match case.entry.only_tells() {
+        true if answer.number == 0 => answer.numbers.iter().for_each(|&n| put_number(&mut told, n)),
+        true => {}
+        false => told.extend(&answer.lent[..answer.length()]),
+    }
+    told
 }
 
 /// A case as it is recorded: entry, number, room, the lengths of five files, and these; what an entry does not take is
@@ -29,7 +34,8 @@ fn put_number(out: &mut Vec<u8>, n: usize) {
 fn recorded(case: &Case, answer: &Answer) -> Vec<u8> {
     let mut files: Vec<&[u8]> = case.args.iter().map(Vec::as_slice).collect();
     files.resize(4, &[]);
-    files.push(&answer.lent[..answer.length]);
+    let result = result(case, answer);
+    files.push(&result);
     let mut out = vec![case.entry as u8, answer.number as u8];
     put_number(&mut out, answer.lent.len());
     files.iter().for_each(|file| put_number(&mut out, file.len()));
@@ -47,7 +53,8 @@ pub fn check_edges() -> bool {
             Ok(told) => {
                 let told = edge.case.delivered(told);
                 let by_hand = edge.case.delivered(edge.expected.clone());
-                let differ = (told != by_hand).then(|| format!("by hand {}\ntold {}", by_hand.show(), told.show()));
+                let show = |answer: &Answer| answer.show(edge.case.entry);
+                let differ = (told != by_hand).then(|| format!("by hand {}\ntold {}", show(&by_hand), show(&told)));
                 differ.or_else(|| compare_with(&edge.case, &told).err().map(|t| t.text().to_string()))
             }
         };
@@ -68,13 +75,14 @@ fn small(case: &Case) -> bool {
     case.args.iter().all(|arg| arg.len() <= LONGEST)
 }
 
-/// Writes the hand-written cases and `count` random ones; of an entry that came later a tenth as many, behind all others.
+/// Writes the hand-written cases and `count` random ones; of entries that came later a tenth as many, behind all
+/// before.
 pub fn record(file: &str, seed: u64, count: usize) -> bool {
     if !check_edges() {
         return false;
     }
     let mut cases: Vec<Vec<u8>> = vec![];
-    for (group, (seed, count)) in edges().iter().zip([(seed, count), (seed + 1, count / 10)]) {
+    for (group, (seed, count)) in edges().iter().zip([(seed, count), (seed + 1, count / 10), (seed + 2, count / 10)]) {
         let Some(random) = random_cases(group.entries, seed, count) else { return false };
         cases.extend(group.short.iter().map(recorded_edge));
         cases.extend(random);
@@ -171,11 +179,18 @@ fn counted(bytes: &[u8]) -> String {
     format!("{} {}", bytes.len(), hex(bytes))
 }
 
+/// Numbers after their count.
+fn listed(numbers: &[usize]) -> String {
+    let all = std::iter::once(numbers.len()).chain(numbers.iter().copied());
+    all.map(|n| n.to_string()).collect::<Vec<_>>().join(" ")
+}
+
 /// Prints a recorded file as text, a case a line.
 pub fn show(file: &str) -> bool {
     for (case, answer) in read(file) {
         let args: Vec<String> = case.args.iter().map(|arg| counted(arg)).collect();
-        let result = counted(&answer.lent[..answer.length]);
+        let result = result(&case, &answer);
+        let result = if case.entry.only_tells() { listed(&numbers_of(&result)) } else { counted(&result) };
         println!("{} {} {} {} {result}", case.entry.name(), args.join(" "), case.room, answer.number);
     }
     true

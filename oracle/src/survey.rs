@@ -7,9 +7,11 @@ use crate::case::Case;
 use crate::expect::{can_be_rewritten, outcome, reconstructed, shape_file, value_file, Entry, ENTRIES};
 use crate::first_fault::faults;
 use crate::generate::{random_case, Scale};
+use crate::paths::width;
 use crate::random::Random;
+use crate::room::{has_few_values, Room};
 use crate::spots::{met, Spot};
-use crate::types::{check_lowering, read_type, size, Ty};
+use crate::types::{check_lowering, children, lower, read_type, size, Ty};
 
 /// The deepest record; a Variant is a level of its own.
 fn depth(ty: &Ty) -> usize {
@@ -47,6 +49,15 @@ fn features(case: &Case, ty: &Ty, result: &[u8]) -> Vec<String> {
             all.push(name.to_string());
         }
     };
+    if case.entry == Entry::Room {
+        put(has_few_values(ty), "every value is tried");
+        put(narrower_is_longer(ty), "a narrower side that is longer");
+        put(width(ty) == 0, "no bits");
+    }
+    if case.entry == Entry::ShapeRecords {
+        let longest = result == &Room::of(&lower(ty)).file()[6..];
+        put(longest, "as many records as a shape of the type can have");
+    }
     put(depth(ty) == 32, "depth 32");
     put(case.args[0].len() >= 4_000, "1,000 records or more");
     put(case.args[0].len() == 4_096, "1,024 records");
@@ -74,6 +85,22 @@ fn features(case: &Case, ty: &Ty, result: &[u8]) -> Vec<String> {
         all.extend(lacking_units(case));
     }
     all
+}
+
+/// Has the type a choice whose narrower side has the longer shape?
+fn narrower_is_longer(ty: &Ty) -> bool {
+    let room = |t: &Ty| Room::of(&lower(t));
+    let differ = |l: &Room, r: &Room| (l.bits < r.bits && l.shape > r.shape) || (l.bits > r.bits && l.shape < r.shape);
+    let below = children(ty).into_iter().any(narrower_is_longer);
+    below
+        || match ty {
+            Ty::Either(l, r) => differ(&room(l), &room(r)),
+            Ty::Enum(variants) if variants.len() == 2 => {
+                let [l, r] = [0, 1].map(|i| room(&Ty::Tuple(variants[i].clone())));
+                differ(&l, &r)
+            }
+            _ => false,
+        }
 }
 
 fn some(n: usize) -> &'static str {

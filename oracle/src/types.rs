@@ -149,7 +149,7 @@ pub fn check_lowering(ty: &Ty) -> Result<(), u32> {
     Ok(())
 }
 
-fn children(ty: &Ty) -> Vec<&Ty> {
+pub fn children(ty: &Ty) -> Vec<&Ty> {
     match ty {
         Ty::Never | Ty::Bool | Ty::UInt(_) => vec![],
         Ty::Either(l, r) => vec![l, r],

@@ -7,5 +7,6 @@ pub mod Readings
 pub mod Reconstructs
 pub mod Cleans
 pub mod Frames
+pub mod Rooms
 pub mod Unframes
 pub mod Parts

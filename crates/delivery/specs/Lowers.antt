@@ -46,7 +46,7 @@ module _ {s E S W : List ℕ} {r : TypeAnswer} (p : Tabled s r E S W) where
     lowers-small = small (tree 32 s 0) (lowers-not-large s (tree 32 s 0) lowers)
 
     -- the file's own size is not cut: it is the length of its lowered type
-    lowered-size : getD S 0 0 ≡ length (type-records (low 32 false s 0))
+    pub lowered-size : getD S 0 0 ≡ length (type-records (low 32 false s 0))
     unfolding low
     lowered-size =
         let g = lower-given .starts in

@@ -1,21 +1,29 @@
 -- What a call of each entry tells: of the files that it is lent and what its buffer held before, the number and the length that answer it, and what the buffer held afterwards.
 -- The contracts of the entries, of the C functions and of what stands below them say this and nothing else (of the edit: and demand 3, `Edits`). In Rattle the number and the length are
--- the reply's (`numberOf`, `lengthOf`), in C the result and what stands behind the last pointer.
+-- the reply's (`numberOf`, `lengthOf`), in C the result and what stands behind the last pointer. Two entries are lent no buffer: a call of theirs tells numbers alone.
 use mathlib.Core.Path.{_≡_}
 use mathlib.Core.List.{List, _++_}
 use Prim.Native.Nat.{ℕ, _≤_, _<_}
 use lib.ListN.{length, take, drop}
 use Rattle.model.specs.Numbers.{no-room}
 use Rattle.model.specs.Frames.{after}
-use Rattle.model.specs.Operations.{lowered, shaped, reconstructed, cleaned-shape, framed, unframed, part-read, edited, delivered}
+use Rattle.model.specs.Operations.{lowered, room, shaped, shape-room, reconstructed, cleaned-shape, framed, unframed, part-read, edited, delivered, told-room, told-count}
 
 -- a call of `lower`
 abbrev pub Lower : (ty out : List ℕ) → ℕ → ℕ → List ℕ → Type 0
 Lower ty out n len left = (n, len, left) ≡ delivered (lowered ty) out
 
+-- a call of `room`, which lends no buffer: the number, and what is told of the type
+abbrev pub Room : (ty : List ℕ) → ℕ → ℕ → ℕ → ℕ → Type 0
+Room ty n low bits most = (n, low, bits, most) ≡ told-room (room ty)
+
 -- a call of `write_shape`
 abbrev pub WriteShape : (ty value out : List ℕ) → ℕ → ℕ → List ℕ → Type 0
 WriteShape ty value out n len left = (n, len, left) ≡ delivered (shaped ty value) out
+
+-- a call of `shape_records`, which lends no buffer either
+abbrev pub ShapeRecords : (ty value : List ℕ) → ℕ → ℕ → Type 0
+ShapeRecords ty value n records = (n, records) ≡ told-count (shape-room ty value)
 
 -- a call of `reconstruct`
 abbrev pub Reconstruct : (ty shape out : List ℕ) → ℕ → ℕ → List ℕ → Type 0

@@ -27,4 +27,5 @@ pub mod Cases
 pub mod Numbered
 pub mod Units
 pub mod Cleaning
+pub mod Room
 pub mod Edits

@@ -15,6 +15,7 @@ pub mod ShapeFiles
 pub mod ValueFiles
 pub mod Faults
 pub mod Frames
+pub mod Room
 pub mod Paths
 pub mod Parts
 pub mod Operations

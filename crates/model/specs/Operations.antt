@@ -16,7 +16,8 @@ use Rattle.model.specs.Reconstruct.{reconstruct}
 use Rattle.model.specs.Spots.{lacks-unit, cleaned}
 use Rattle.model.specs.ShapeFiles.{shape-of, shape-file}
 use Rattle.model.specs.ValueFiles.{value-of, value-file}
-use Rattle.model.specs.Frames.{Place, frame-file, unframe}
+use Rattle.model.specs.Frames.{Place, width, frame-file, unframe}
+use Rattle.model.specs.Room.{TypeRoom, longest-shape}
 use Rattle.model.specs.Paths.{steps, found, part-records, replaced}
 
 -- a type that lowers: no type or lowering row holds
@@ -33,12 +34,24 @@ lowered ty = do
   t ← lowering ty
   done (type-records (lower t))
 
+-- the room that a type takes (02, R-1)
+unfoldable pub room : List ℕ → Outcome TypeRoom
+room ty = do
+  t ← lowering ty
+  done (record { lowered = length (type-records (lower t)); bits = width (lower t); shape = longest-shape (lower t) })
+
 -- the shape of a value
 unfoldable pub shaped : List ℕ → List ℕ → Outcome (List ℕ)
 shaped ty val = do
   t ← lowering ty
   v ← value-of t val
   done (shape-file (inject t v))
+
+-- the records of a value's shape (02, R-1), one byte each
+unfoldable pub shape-room : List ℕ → List ℕ → Outcome ℕ
+shape-room ty val = do
+  shape ← shaped ty val
+  done (length shape)
 
 -- what the Rust reads of a shape: the type, the shape's tree, the value
 pub record Reading : Type 0 where
@@ -118,3 +131,12 @@ delivered (done result) buffer =
       | true ↦ (no-room, 0, buffer)
       | false ↦ (0, length result, result ++ drop (length result) buffer)
     ]
+
+-- where no buffer is lent: the number, and 0 for each other number of a refusal
+unfoldable pub told-room : Outcome TypeRoom → ℕ × ℕ × ℕ × ℕ
+told-room (refused n) = (n, 0, 0, 0)
+told-room (done r) = (0, r .lowered, r .bits, r .shape)
+
+unfoldable pub told-count : Outcome ℕ → ℕ × ℕ
+told-count (refused n) = (n, 0)
+told-count (done k) = (0, k)

@@ -1,9 +1,11 @@
-// The entries as C functions, with the same promises: the number is the result, and the length goes behind the last pointer.
+// The entries as C functions, with the same promises: the number is the result, and the other numbers of the reply go behind the last pointers, one each.
 use reply::length_of;
 use reply::number;
+use reply::room_number;
+use reply::room_of;
 ghost use Rattle.model.specs.Edits.{Edited};
 ghost use Rattle.model.specs.Frames.{after};
-ghost use Rattle.model.specs.Calls.{Lower, WriteShape, Reconstruct, CleanShape, WriteFrame, ReadFrame, PartRead, PartEdit};
+ghost use Rattle.model.specs.Calls.{Lower, Room, WriteShape, ShapeRecords, Reconstruct, CleanShape, WriteFrame, ReadFrame, PartRead, PartEdit};
 
 // `lower` for C: the number, 0 where the type is lowered; `length` is 0 where it is not.
 #[no_mangle]
@@ -13,6 +15,24 @@ pub extern "C" fn niegluk_lower(ty: &[u8], out: &mut [u8], length: &mut usize) -
     let lowered = crate::lower(ty, out);
     *length = length_of(lowered);
     number(lowered)
+}
+
+// `room` for C: the number, 0 where the type is accepted; the three others are 0 where it is not.
+#[no_mangle]
+pub extern "C" fn niegluk_room(
+    ty: &[u8],
+    lowered: &mut usize,
+    bits: &mut usize,
+    shape: &mut usize,
+) -> u32
+    ensures { λ r. ⌜ Room (now (ty .entry)) r (now (lowered .exit)) (now (bits .exit)) (now (shape .exit)) ⌝ }
+{
+    let told = crate::room(ty);
+    let room = room_of(told);
+    *lowered = room.lowered;
+    *bits = room.bits;
+    *shape = room.shape;
+    room_number(told)
 }
 
 // `write_shape` for C: the number, 0 where the shape is written; `length` is 0 where it is not.
@@ -28,6 +48,16 @@ pub extern "C" fn niegluk_write_shape(
     let shaped = crate::write_shape(ty, value, out);
     *length = length_of(shaped);
     number(shaped)
+}
+
+// `shape_records` for C: the number, 0 where the value is accepted; `records` is 0 where it is not.
+#[no_mangle]
+pub extern "C" fn niegluk_shape_records(ty: &[u8], value: &[u8], records: &mut usize) -> u32
+    ensures { λ r. ⌜ ShapeRecords (now (ty .entry)) (now (value .entry)) r (now (records .exit)) ⌝ }
+{
+    let told = crate::shape_records(ty, value);
+    *records = length_of(told);
+    number(told)
 }
 
 // `reconstruct` for C: the number, 0 where the value file is written; `length` is 0 where it is not.

@@ -1,14 +1,15 @@
-// The public entries: each takes whole files and a buffer for its result (an edit: the frame that it changes), asks nothing of its caller, and answers a `Reply`.
+// The public entries: each takes whole files and a buffer for its result (an edit: the frame that it changes; two that only tell numbers: none), asks nothing of its caller, and answers a `Reply`, or a `RoomReply`.
 // Each owns the table of the type file and the left sizes, lends both to `read_type`, and leaves the rest to its operation. The functions that own the table are proved by hand.
 // What each promises of a call is an equation of `crates/model/specs/Calls.antt`. How an entry is added: docs/ENTRIES.md.
 use array::left_sizes;
 use entries::Entry;
 use entries::read_type;
 use reply::Reply;
+use reply::RoomReply;
 ghost use Rattle.model.specs.Edits.{Edited};
 ghost use Rattle.model.specs.Frames.{after};
-ghost use Rattle.model.specs.Calls.{Lower, WriteShape, Reconstruct, CleanShape, WriteFrame, ReadFrame, PartRead, PartEdit};
-ghost use Rattle.reply.specs.Numbers.{numberOf, lengthOf};
+ghost use Rattle.model.specs.Calls.{Lower, Room, WriteShape, ShapeRecords, Reconstruct, CleanShape, WriteFrame, ReadFrame, PartRead, PartEdit};
+ghost use Rattle.reply.specs.Numbers.{numberOf, lengthOf, roomNumber, roomOf};
 
 mod c;
 
@@ -23,6 +24,17 @@ pub fn lower(ty: &[u8], out: &mut [u8]) -> Reply
     operations::lower(ty, read, &columns, &lefts, out)
 }
 
+// Tells the room that a type takes: the records of its lowered type, the bits of a frame, and the most records that a shape of it has, which some value's shape has and none exceeds.
+pub fn room(ty: &[u8]) -> RoomReply
+    ensures { λ r. ⌜ Room (now (ty .entry)) (roomNumber r) (roomOf r .lowered) (roomOf r .bits) (roomOf r .shape) ⌝ }
+{
+    let mut table = [Entry::NONE; 1024];
+    let mut columns = [0usize; 2048];
+    let lefts = left_sizes();
+    let read = read_type(ty, true, &mut table, &mut columns, &lefts);
+    operations::room(ty, read, &columns, &lefts)
+}
+
 // Writes the shape of a value over the front of `out`, and answers its length; every byte behind it stays, and all of them where it is refused.
 pub fn write_shape(ty: &[u8], value: &[u8], out: &mut [u8]) -> Reply
     ensures { λ r. ⌜ WriteShape (now (ty .entry)) (now (value .entry)) (now (out .entry)) (numberOf r) (lengthOf r) (now (out .exit)) ⌝ }
@@ -32,6 +44,17 @@ pub fn write_shape(ty: &[u8], value: &[u8], out: &mut [u8]) -> Reply
     let lefts = left_sizes();
     let read = read_type(ty, true, &mut table, &mut columns, &lefts);
     operations::write_shape(ty, read, &columns, &lefts, value, out)
+}
+
+// Tells how many records the shape of a value has, as `write_shape` would write it, and needs no buffer for them.
+pub fn shape_records(ty: &[u8], value: &[u8]) -> Reply
+    ensures { λ r. ⌜ ShapeRecords (now (ty .entry)) (now (value .entry)) (numberOf r) (lengthOf r) ⌝ }
+{
+    let mut table = [Entry::NONE; 1024];
+    let mut columns = [0usize; 2048];
+    let lefts = left_sizes();
+    let read = read_type(ty, true, &mut table, &mut columns, &lefts);
+    operations::shape_records(ty, read, &columns, &lefts, value)
 }
 
 // Writes the value file that a shape gives as one of the type over the front of `out`, and answers its length; every byte behind it stays, and all of them where it is refused.

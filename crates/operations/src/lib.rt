@@ -12,7 +12,10 @@ use rebuild::check_shape;
 use rebuild::value_records;
 use reply::Refusal;
 use reply::Reply;
+use reply::RoomReply;
+use reply::TypeRoom;
 use restore::write_value;
+use room::longest_shape;
 use shape_clean::write_cleaned;
 use structural::write_lowered;
 use table::RECORDS;
@@ -20,10 +23,10 @@ use value::Checked;
 use value::check_file;
 ghost use mathlib.Core.Path.{_≡_};
 ghost use mathlib.Core.Bool.{true, false};
-ghost use Rattle.model.specs.Calls.{Lower, WriteShape, Reconstruct, CleanShape, WriteFrame, ReadFrame, PartRead, PartEdit};
+ghost use Rattle.model.specs.Calls.{Lower, Room, WriteShape, ShapeRecords, Reconstruct, CleanShape, WriteFrame, ReadFrame, PartRead, PartEdit};
 ghost use Rattle.model.specs.Edits.{Edited};
 ghost use Rattle.model.specs.Frames.{after};
-ghost use Rattle.reply.specs.Numbers.{numberOf, lengthOf};
+ghost use Rattle.reply.specs.Numbers.{numberOf, lengthOf, roomNumber, roomOf};
 ghost use Rattle.array.specs.Lefts.{left-sizes};
 ghost use Rattle.entries.specs.Answers.{TypeRead};
 
@@ -70,6 +73,44 @@ pub fn write_shape(
                     }
                     Reply::Done(shape::write_shape(ty, ends, value, out, lefts))
                 }
+            }
+        }
+    }
+}
+
+// Tells the room that a type takes: the records of its lowered type, the bits of a frame, and the most records that a shape of it has.
+pub fn room(ty: &[u8], read: Read, columns: &[usize], lefts: &Lefts) -> RoomReply
+    requires { ⌜ TypeRead true (now ty) read (now columns) ⌝ }
+    requires { ⌜ now lefts ≡ left-sizes ⌝ }
+    ensures { λ r. ⌜ Room (now (ty .entry)) (roomNumber r) (roomOf r .lowered) (roomOf r .bits) (roomOf r .shape) ⌝ }
+{
+    match read {
+        Read::Refused(x) => RoomReply::Refused(x),
+        Read::Root(root) => {
+            let ends = &columns[..RECORDS];
+            let widths = &columns[RECORDS..];
+            RoomReply::Done(TypeRoom {
+                lowered: root.size as usize,
+                bits: widths[0],
+                shape: longest_shape(ty, ends, lefts),
+            })
+        }
+    }
+}
+
+// Tells how many records the shape of a value has, as `write_shape` would write it.
+pub fn shape_records(ty: &[u8], read: Read, columns: &[usize], lefts: &Lefts, value: &[u8]) -> Reply
+    requires { ⌜ TypeRead true (now ty) read (now columns) ⌝ }
+    requires { ⌜ now lefts ≡ left-sizes ⌝ }
+    ensures { λ r. ⌜ ShapeRecords (now (ty .entry)) (now (value .entry)) (numberOf r) (lengthOf r) ⌝ }
+{
+    match read {
+        Read::Refused(x) => Reply::Refused(x),
+        Read::Root(_) => {
+            let ends = &columns[..RECORDS];
+            match check_file(ty, ends, value, lefts) {
+                Checked::Bad(why) => Reply::Refused(why),
+                Checked::Next(_, size) => Reply::Done(size),
             }
         }
     }

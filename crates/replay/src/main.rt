@@ -1,11 +1,12 @@
-// The program `replay`: puts the recorded cases of the file `cases` through the eight public entries, and prints for each entry how many cases there are
-// and how many differ. Of each case the number, the length and every lent byte are compared.
+// The program `replay`: puts the recorded cases of the file `cases` through the ten public entries, and prints for each entry how many cases there are
+// and how many differ. Of each case the number, the length and every lent byte are compared; of `room` and `shape_records`, which write nothing, all numbers.
 //
 // The file is the number of its cases, in three bytes, and the cases. A case is a head of 20 bytes and a body of five files:
 //   entry, number: a byte each
 //   room, and the lengths of the five files: three bytes each, the highest first
 //   type; value, shape or frame; path; value of an edit; result
 // The files that an entry does not take are empty. So many bytes are lent as the room tells: the frame of an edit, otherwise all 0xA5.
+// The result of `room` and of `shape_records` are the numbers that they tell, three bytes each.
 use bytes::copy;
 use check::same;
 use libc::STDOUT_FILENO;
@@ -15,11 +16,15 @@ use niegluk::part_edit;
 use niegluk::part_read;
 use niegluk::read_frame;
 use niegluk::reconstruct;
+use niegluk::shape_records;
 use niegluk::write_frame;
 use niegluk::write_shape;
 use reply::Reply;
+use reply::TypeRoom;
 use reply::length_of;
 use reply::number;
+use reply::room_number;
+use reply::room_of;
 use value::wide;
 ghost use Prim.Native.Nat.{_+_, _≤_, _<_};
 ghost use mathlib.Core.Path.{_≡_};
@@ -38,8 +43,14 @@ const ROOM: usize = 65536;
 // The entry that edits.
 const EDIT: u8 = 7;
 
+// The entry that tells the room of a type.
+const TELLS_ROOM: u8 = 9;
+
+// The entry that tells the records of a value's shape.
+const TELLS_RECORDS: u8 = 10;
+
 // The last entry.
-const LAST: u8 = 8;
+const LAST: u8 = 10;
 
 // What the head of a case tells, and where its files start in the body. The entry is 0 where the case cannot be read, or is of no entry.
 struct Case {
@@ -216,6 +227,47 @@ fn agrees(s: &[u8], c: Case, out: &mut [u8], told: &mut [u8]) -> bool
     same(out, told)
 }
 
+// The number of three bytes at a place of a result; 0 where the result ends before it, as that of a refusal does.
+fn told_at(result: &[u8], at: usize) -> usize
+    requires { ⌜ at ≤ 6 ⌝ }
+{
+    if result.len() < at + 3 {
+        return 0;
+    }
+    number_at(result, at)
+}
+
+// Are these the three numbers of a result?
+fn is_told(x: TypeRoom, result: &[u8]) -> bool {
+    x.lowered == told_at(result, 0) && x.bits == told_at(result, 3) && x.shape == told_at(result, 6)
+}
+
+// Does `room` answer the case's number and the numbers of its result?
+fn room_agrees(s: &[u8], c: Case) -> bool
+    requires { ⌜ Stands c (length (now s)) ⌝ }
+{
+    let file = c.file;
+    let result = c.result;
+    let end = c.end;
+    let r = niegluk::room(&s[0..file]);
+    if room_number(r) != c.number as u32 {
+        return false;
+    }
+    is_told(room_of(r), &s[result..end])
+}
+
+// Does `shape_records` answer the case's number and the number of its result?
+fn records_agree(s: &[u8], c: Case) -> bool
+    requires { ⌜ Stands c (length (now s)) ⌝ }
+{
+    let file = c.file;
+    let path = c.path;
+    let result = c.result;
+    let end = c.end;
+    let r = shape_records(&s[0..file], &s[file..path]);
+    tells(r, c.number, told_at(&s[result..end], 0))
+}
+
 // A buffer before it is lent.
 fn filled() -> [u8; ROOM]
     ensures { λ r. ⌜ 65536 ≡ length r ⌝ }
@@ -227,6 +279,12 @@ fn filled() -> [u8; ROOM]
 fn holds(body: &[u8; BODY], c: Case) -> bool
     requires { ⌜ Stands c 70000 ⌝ }
 {
+    if c.entry == TELLS_ROOM {
+        return room_agrees(body, c);
+    }
+    if c.entry == TELLS_RECORDS {
+        return records_agree(body, c);
+    }
     let room = c.room;
     if ROOM < room {
         return false;
@@ -289,5 +347,7 @@ fn main() {
     show(6, b"part_read");
     show(7, b"part_edit");
     show(8, b"clean_shape");
+    show(9, b"room");
+    show(10, b"shape_records");
     show_unreadable();
 }

@@ -5,6 +5,9 @@ use Rattle.reply.specs.declared.Refusal.{Refusal}
 use Rattle.reply.specs.declared.Refusal.the-variants.{TypeLength, TypeTooLong, BadRecord, TooDeep, NotOneType, NeverStands, TooLarge, ShapeTooLong, NotOneTree, NotReconstructed, NoUnit, FrameLength, StrayBit, PathOdd, NoSuchPart, ValueLength, NotOneValue, IntegerTooLarge, ListTooLong, NoRoom}
 use Rattle.reply.specs.declared.Reply.{Reply}
 use Rattle.reply.specs.declared.Reply.the-variants.{Done, Refused}
+use Rattle.reply.specs.declared.TypeRoom.{TypeRoom}
+use Rattle.reply.specs.declared.RoomReply.{RoomReply}
+use Rattle.reply.specs.declared.RoomReply.the-variants as about-room
 
 abbrev pub refusalNumber : Refusal → ℕ
 refusalNumber TypeLength = type-length
@@ -35,3 +38,11 @@ numberOf (Refused x) = refusalNumber x
 abbrev pub lengthOf : Reply → ℕ
 lengthOf (Done n) = n
 lengthOf (Refused x) = 0
+
+abbrev pub roomNumber : RoomReply → ℕ
+roomNumber (about-room.Done room) = 0
+roomNumber (about-room.Refused x) = refusalNumber x
+
+abbrev pub roomOf : RoomReply → TypeRoom
+roomOf (about-room.Done room) = room
+roomOf (about-room.Refused x) = record { lowered = 0; bits = 0; shape = 0 }

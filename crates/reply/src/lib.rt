@@ -1,6 +1,6 @@
-// What an operation answers: the length of its result, or why it is refused. One refusal for each row of the table (01, with 02's numbers), in its order.
+// What an operation answers: the length of its result, the number or the numbers that it tells, or why it is refused. One refusal for each row of the table (01, with 02's numbers), in its order.
 ghost use mathlib.Core.Path.{_≡_};
-ghost use Rattle.reply.specs.Numbers.{refusalNumber, numberOf, lengthOf};
+ghost use Rattle.reply.specs.Numbers.{refusalNumber, numberOf, lengthOf, roomNumber, roomOf};
 
 pub enum Refusal {
     TypeLength,
@@ -27,6 +27,27 @@ pub enum Refusal {
 
 pub enum Reply {
     Done(usize),
+    Refused(Refusal),
+}
+
+// The room that a type takes: the records of its lowered type, the bits of a frame, and the most records of a shape.
+pub struct TypeRoom {
+    pub lowered: usize,
+    pub bits: usize,
+    pub shape: usize,
+}
+
+impl TypeRoom {
+    // The numbers where there is no room to tell.
+    pub const NONE: TypeRoom = TypeRoom {
+        lowered: 0,
+        bits: 0,
+        shape: 0,
+    };
+}
+
+pub enum RoomReply {
+    Done(TypeRoom),
     Refused(Refusal),
 }
 
@@ -75,5 +96,25 @@ pub fn length_of(x: Reply) -> usize
     match x {
         Reply::Done(n) => n,
         Reply::Refused(_) => 0,
+    }
+}
+
+// The number of a reply about room: 0 where the type is accepted.
+pub fn room_number(x: RoomReply) -> u32
+    ensures { λ r. ⌜ r ≡ roomNumber x ⌝ }
+{
+    match x {
+        RoomReply::Done(_) => 0,
+        RoomReply::Refused(y) => refusal_number(y),
+    }
+}
+
+// The room of a reply: three times 0 where the type is refused.
+pub fn room_of(x: RoomReply) -> TypeRoom
+    ensures { λ r. ⌜ r ≡ roomOf x ⌝ }
+{
+    match x {
+        RoomReply::Done(room) => room,
+        RoomReply::Refused(_) => TypeRoom::NONE,
     }
 }

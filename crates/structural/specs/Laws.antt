@@ -3,3 +3,4 @@ pub mod Bounds
 pub mod Trees
 pub mod Lists
 pub mod Forms
+pub mod Parts

@@ -39,7 +39,7 @@ pub enum Parts {
 }
 
 // What a record's lowered type is: a balanced tree of so many parts, or a list.
-enum Form {
+pub enum Form {
     Tree(Parts, usize),
     List(NonZeroPow2Usize),
 }
@@ -51,7 +51,7 @@ struct Written {
 }
 
 // The form of what a record says; a unit, the tree of no parts, for a Never and where there is no type.
-fn form_of(h: Head) -> Form
+pub fn form_of(h: Head) -> Form
     ensures { λ r. ⌜ r ≡ form-of h ⌝ }
 {
     match h {
@@ -83,7 +83,7 @@ fn joint(parts: Parts) -> u8
 }
 
 // Are the parts all the same?
-fn are_same(parts: Parts) -> bool
+pub fn are_same(parts: Parts) -> bool
     ensures { λ r. ⌜ r ≡ all-same parts ⌝ }
 {
     match parts {

@@ -1,7 +1,10 @@
-//! Writes the frame of the sample, (9, [1]) as (u4, List of u1 bounded at 4), edits its part 0 to 6,
-//! and reads the part and the whole back.
+//! Asks how much room the type of the sample takes, (u4, List of u1 bounded at 4), lends buffers of
+//! that length for the shape and the frame of (9, [1]), edits part 0 of the frame to 6, and reads the
+//! part and the whole back.
 
-use niegluk::{Refusal, part_edit, part_read, read_frame, write_frame};
+use niegluk::{
+    Refusal, part_edit, part_read, read_frame, room, shape_records, write_frame, write_shape,
+};
 
 const TYPE: [u8; 16] = [5, 0, 0, 2, 2, 0, 0, 4, 7, 0, 0, 4, 2, 0, 0, 1];
 const RECORD: usize = 36;
@@ -22,7 +25,21 @@ fn main() -> Result<(), Refusal> {
         record(2, 1, 1),
     ]
     .concat();
-    let mut frame = [0; 2];
+    // known of the type, before there is a value
+    let room = room(&TYPE)?;
+    println!(
+        "room {} lowered records, {} bits, shapes of up to {} records",
+        room.lowered, room.bits, room.shape
+    );
+    let mut shape = vec![0; room.shape];
+    let length = write_shape(&TYPE, &value, &mut shape)?;
+    println!("shape {length} of {}", shape.len());
+    // known of the value, before its shape is written
+    let mut shape = vec![0; shape_records(&TYPE, &value)?];
+    let length = write_shape(&TYPE, &value, &mut shape)?;
+    println!("shape {length} of {}", shape.len());
+
+    let mut frame = vec![0; room.bits.div_ceil(8)];
     let length = write_frame(&TYPE, &value, &mut frame)?;
     println!("frame {length} {:02x}{:02x}", frame[0], frame[1]);
 

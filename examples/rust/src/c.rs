@@ -2,7 +2,8 @@
 //!
 //! - each pointer points to as many bytes as the length after it says, and that no one else writes
 //!   them while the function runs;
-//! - what it writes (`out`, the frame of an edit, `length`) overlaps nothing else that is passed.
+//! - what it writes (`out`, the frame of an edit, `length`, a number that is told) overlaps nothing
+//!   else that is passed.
 
 pub type Bytes = *const u8;
 pub type Lent = *mut u8;
@@ -17,6 +18,14 @@ unsafe extern "C" {
         length: Length,
     ) -> u32;
 
+    pub fn niegluk_room(
+        ty: Bytes,
+        ty_len: usize,
+        lowered: Length,
+        bits: Length,
+        shape: Length,
+    ) -> u32;
+
     pub fn niegluk_write_shape(
         ty: Bytes,
         ty_len: usize,
@@ -25,6 +34,14 @@ unsafe extern "C" {
         out: Lent,
         out_len: usize,
         length: Length,
+    ) -> u32;
+
+    pub fn niegluk_shape_records(
+        ty: Bytes,
+        ty_len: usize,
+        value: Bytes,
+        value_len: usize,
+        records: Length,
     ) -> u32;
 
     pub fn niegluk_reconstruct(

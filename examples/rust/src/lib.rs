@@ -2,8 +2,9 @@
 //!
 //! Each takes whole files as bytes, writes its result to the front of `out` and answers the
 //! result's length; an edit changes the frame's own bytes. Past the result's end no byte of `out`
-//! changes, and where the operation is refused none at all. docs/FORMATS.md of the repository says
-//! what stands in the files. A List bounded at b holds at most b - 1 elements.
+//! changes, and where the operation is refused none at all. [`room`] and [`shape_records`] write
+//! nothing: they tell how long buffers must be. docs/FORMATS.md of the repository says what stands
+//! in the files. A List bounded at b holds at most b - 1 elements.
 //!
 //! ```
 //! // (u4, List of u1 bounded at 4), and the frame of (9, [1])
@@ -35,6 +36,18 @@ mod c;
 mod refusal;
 
 pub use refusal::Refusal;
+
+/// The room that a type takes, as [`room`] tells it.
+#[derive(Clone, Copy, Debug, PartialEq, Eq, Hash)]
+pub struct Room {
+    /// The records of the lowered type: the bytes that [`lower`] writes.
+    pub lowered: usize,
+    /// The bits of a frame. It has `bits.div_ceil(8)` bytes.
+    pub bits: usize,
+    /// The most records that a shape has: the most bytes that [`write_shape`] writes. Some value's
+    /// shape has as many, and none has more.
+    pub shape: usize,
+}
 
 /// What a function of the library answered: its number, and what it left at `length`.
 fn reply(number: u32, length: usize) -> Result<usize, Refusal> {
@@ -75,6 +88,41 @@ pub fn lower(ty: &[u8], out: &mut [u8]) -> Result<usize, Refusal> {
     reply(number, length)
 }
 
+/// Tells the room that a type takes. At most 65,536 records, 32,768 bits and 65,536 records.
+///
+/// # Errors
+///
+/// Numbers 1 to 7.
+///
+/// ```
+/// // a List of u1 bounded at 4: its longest shapes are those of lists with three elements
+/// let room = niegluk::room(&[7, 0, 0, 4, 2, 0, 0, 1])?;
+/// assert_eq!((room.lowered, room.bits, room.shape), (15, 5, 10));
+/// // a Never
+/// assert_eq!(niegluk::room(&[0; 4]), Err(niegluk::Refusal::NeverStands));
+/// # Ok::<(), niegluk::Refusal>(())
+/// ```
+pub fn room(ty: &[u8]) -> Result<Room, Refusal> {
+    let (mut lowered, mut bits, mut shape) = (0, 0, 0);
+    // SAFETY: the length is the slice's, and what is written, `lowered`, `bits` and `shape`, is
+    // `&mut`, so nothing else overlaps it.
+    let number = unsafe {
+        c::niegluk_room(
+            ty.as_ptr(),
+            ty.len(),
+            &raw mut lowered,
+            &raw mut bits,
+            &raw mut shape,
+        )
+    };
+    let lowered = reply(number, lowered)?;
+    Ok(Room {
+        lowered,
+        bits,
+        shape,
+    })
+}
+
 /// Writes the shape of a value: its records, one byte each (0 a unit, 1 a left, 2 a right, 3 a
 /// pair), parent first. At most 65,536 bytes.
 ///
@@ -106,6 +154,35 @@ pub fn write_shape(ty: &[u8], value: &[u8], out: &mut [u8]) -> Result<usize, Ref
         )
     };
     reply(number, length)
+}
+
+/// Tells how many records the shape of a value has: the length of what [`write_shape`] would write.
+/// At most 65,536.
+///
+/// # Errors
+///
+/// Numbers 1 to 7, 15, 16, 21 and 22.
+///
+/// ```
+/// // true, as an Option of a Boolean
+/// let mut value = [0; 72];
+/// (value[0], value[1], value[36], value[37]) = (4, 1, 1, 1);
+/// assert_eq!(niegluk::shape_records(&[4, 0, 0, 0, 1, 0, 0, 0], &value), Ok(3));
+/// ```
+pub fn shape_records(ty: &[u8], value: &[u8]) -> Result<usize, Refusal> {
+    let mut records = 0;
+    // SAFETY: the lengths are the slices', and what is written, `records`, is `&mut`, so nothing
+    // else overlaps it.
+    let number = unsafe {
+        c::niegluk_shape_records(
+            ty.as_ptr(),
+            ty.len(),
+            value.as_ptr(),
+            value.len(),
+            &raw mut records,
+        )
+    };
+    reply(number, records)
 }
 
 /// Reads a shape as a value of a type, and writes its value file, 36 bytes a record. The type need

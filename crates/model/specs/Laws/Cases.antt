@@ -1,6 +1,6 @@
 -- One table of cases over the operations, bytes in, number and bytes out, that the checker computes from the definitions (`computed`, by refl):
 -- 01's starred cases; for every row of the numbers the smallest input; for two rows that hold at once, the number that comes first;
--- 01's traps; and the other cases along its edges. A second table has two edits, one after the other (02, R-2). Every right side is a literal, worked out by hand from 01 and 02.
+-- 01's traps; and the other cases along its edges. A second table has two edits, one after the other (02, R-2), a third the room of types and of values (02, R-1). Every right side is a literal, worked out by hand from 01 and 02.
 use mathlib.Core.Path.{_≡_, refl}
 use mathlib.Core.Bool.{Bool, true, false, _&&_}
 use mathlib.Core.List.{List, [], _∷_, _++_, map}
@@ -20,7 +20,7 @@ use Rattle.model.specs.ShapeFiles.{read-shape, shape-of}
 use Rattle.model.specs.ValueFiles.{encode, value-file, same, parse-at, value-of}
 use Rattle.model.specs.Frames.{after, bits, frame, frame-file, from-bits, padding, unframe}
 use Rattle.model.specs.Paths.{steps, span, among, element, in-variant, step, pick-child, follow, found}
-use Rattle.model.specs.Operations.{lowering, lowered, shaped, earlier-reading, reconstructed, cleaned-shape, framed, unframed, part-read, edited, delivered}
+use Rattle.model.specs.Operations.{lowering, lowered, room, shaped, shape-room, earlier-reading, reconstructed, cleaned-shape, framed, unframed, part-read, edited, delivered, told-room, told-count}
 
 -- HOW A CASE IS WRITTEN
 
@@ -83,6 +83,24 @@ second-only ty frame path val x new y = edits ty frame path val x ∷ edits ty f
 -- the value already there is read, and an edit to it leaves the frame
 abbrev stays : List ℕ → List ℕ → List ℕ → List ℕ → List Case
 stays ty frame path val = gives (part-read after ty frame path) val ∷ edits ty frame path val frame ∷ []
+
+-- a type's room: lowered records, frame bits, the most records of a shape; the last two stand where other cases have their buffer
+abbrev tells : List ℕ → ℕ × ℕ × ℕ × ℕ → Case
+tells ty reply = record { got = let r = told-room (room ty) in (r .0, r .1, r .2 ∷ r .3 ∷ []); want = (reply .0, reply .1, reply .2 ∷ reply .3 ∷ []) }
+
+abbrev takes : List ℕ → ℕ → ℕ → ℕ → Case
+takes ty lowered bits shape = tells ty (0, lowered, bits, shape)
+
+-- refused, and 0 for the three
+abbrev takes-none : List ℕ → ℕ → Case
+takes-none ty n = tells ty (n, 0, 0, 0)
+
+-- the records of a value's shape, or the number and 0
+abbrev counts : List ℕ → List ℕ → ℕ → Case
+counts ty val n = record { got = let r = told-count (shape-room ty val) in (r .0, r .1, []); want = (0, n, []) }
+
+abbrev counts-none : List ℕ → List ℕ → ℕ → Case
+counts-none ty val n = record { got = let r = told-count (shape-room ty val) in (r .0, r .1, []); want = (n, 0, []) }
 
 same-list : List ℕ → List ℕ → Bool
 same-list [] [] = true
@@ -954,3 +972,125 @@ two-edit-table =
 pub two-edits-computed : all-hold two-edit-table ≡ true
 unfolding digits-in times same-list holds all-hold two-edit-table to-bits of-bits byte-bits bits-of pack fill number in-bytes next next-power-of-two btree-split-index grow btree fold type-records shape-records enum-injection partition-type partition head variant-parts read-type type-of lower has-never over-large inject unfold-tree combine as-enum-leaf reconstruct encode value-file same parse-at value-of bits frame frame-file from-bits padding unframe steps span among element in-variant step pick-child follow found lowering framed unframed part-read edited delivered
 two-edits-computed = refl
+
+-- ROOM (02, R-1)
+
+-- an Array of 8 (): no bits, and a shape of 15 records
+abbrev eight-nothings : List ℕ
+eight-nothings = hex 8 0x06000008_05000000
+
+-- variants (u4) and (an Array of 8 ()): the second has fewer bits and the longer shape
+abbrev narrow-longer : List ℕ
+narrow-longer = hex 12 0x08000002_09000001_02000004 ++ hex 4 0x09000001 ++ eight-nothings
+
+pub room-table : List Case
+room-table =
+    -- of every kind: a bit has two records, an integer of w bits 2 w and w - 1 pairs
+    takes boolean 3 1 2
+    ∷ takes u1 3 1 2
+    ∷ takes u2 7 2 5
+    ∷ takes u256 1023 256 767
+    -- an Either: one and the longer side, which is the wider one in the first, the narrower one in the other two
+    ∷ takes u4-or-bool 19 5 12
+    ∷ takes (either-of ++ hex 4 0x02000004 ++ eight-nothings) 31 5 16
+    ∷ takes (either-of ++ eight-nothings ++ hex 4 0x02000004) 31 5 16
+    -- an Option: one more
+    ∷ takes option-bool 5 2 3
+    ∷ takes (options 1 ++ nothing) 3 1 2
+    ∷ takes (options 31 ++ boolean) 65 32 33
+    -- Tuples and Arrays: the parts and the pairs, one unit for none
+    ∷ takes nothing 1 0 1
+    ∷ takes (hex 4 0x05000001 ++ boolean) 3 1 2
+    ∷ takes two-nothings 3 0 3
+    ∷ takes three-booleans 11 3 8
+    ∷ takes no-booleans 1 0 1
+    ∷ takes (hex 4 0x06000001 ++ boolean) 3 1 2
+    ∷ takes (hex 8 0x06000003_05000000) 5 0 5
+    ∷ takes three-u4 47 12 35
+    ∷ takes u4-and-list 31 9 22
+    ∷ takes sensors 167 44 123
+    -- Lists with bound b: b - 1 elements, b - 1 records and log2 b - 1 pairs of blocks; of u1, of u4, of (), of Lists
+    ∷ takes list-2 5 2 3
+    ∷ takes list-4 15 5 10
+    ∷ takes list-8 33 10 23
+    ∷ takes list-8-u4 117 31 86
+    ∷ takes (hex 8 0x07000002_05000000) 3 1 2
+    ∷ takes list-4-nothing 9 2 7
+    ∷ takes (hex 8 0x07000008_05000000) 19 3 16
+    ∷ takes (hex 4 0x07000004 ++ list-4) 51 17 34
+    -- Enums of one variant, of three and of five; where the narrow side has the longer shape
+    ∷ takes one-variant 1 0 1
+    ∷ takes nothing-variant 1 0 1
+    ∷ takes variants 13 4 7
+    ∷ takes five-variants 9 3 4
+    ∷ takes narrow-longer 31 5 16
+    -- an Array of 0 takes no part of what it is of
+    ∷ takes (hex 4 0x06000000 ++ u256) 1 0 1
+    -- each row, with 0 for the three numbers
+    ∷ takes-none [] 1
+    ∷ takes-none (nothing ++ 0 ∷ []) 1
+    ∷ takes-none long-type 2
+    ∷ takes-none bad-kind 3
+    ∷ takes-none deep-type 4
+    ∷ takes-none (options 1) 5
+    ∷ takes-none never 6
+    ∷ takes-none (hex 4 0x06000000 ++ never) 6
+    ∷ takes-none large-type 7
+    ∷ takes-none (hex 8 0x06008001_05000000) 7
+    ∷ takes-none (hex 4 0x06000000 ++ large-type) 7
+    -- 3 before 6, 5 before 7, 6 before 7
+    ∷ takes-none (two-of ++ never ++ bad-kind) 3
+    ∷ takes-none (large-type ++ boolean) 5
+    ∷ takes-none (two-of ++ never ++ large-type) 6
+    -- the records of a value's shape: the most that there are, and fewer
+    ∷ counts boolean (bool-is 1) 2
+    ∷ counts u2 (val 2 0 2 3) 5
+    ∷ counts u4-or-bool (left-of ++ u4-is 9) 12
+    ∷ counts u4-or-bool (right-of ++ bool-is 0) 3
+    ∷ counts option-bool none-is 2
+    ∷ counts option-bool (some-of ++ bool-is 0) 3
+    ∷ counts nothing (tuple-of 0) 1
+    ∷ counts two-nothings (tuple-of 2 ++ tuple-of 0 ++ tuple-of 0) 3
+    ∷ counts no-booleans (array-of 0) 1
+    ∷ counts (hex 4 0x05000001 ++ boolean) (tuple-of 1 ++ bool-is 1) 2
+    ∷ counts (hex 4 0x06000001 ++ boolean) (array-of 1 ++ bool-is 1) 2
+    ∷ counts list-4 (list-of 0) 5
+    ∷ counts list-4 (list-of 1 ++ u1-is 1) 6
+    ∷ counts list-4 (list-of 2 ++ u1-is 1 ++ u1-is 0) 9
+    ∷ counts list-4 (list-of 3 ++ u1-is 1 ++ u1-is 0 ++ u1-is 1) 10
+    ∷ counts list-4-nothing (list-of 3 ++ times 3 (tuple-of 0)) 7
+    ∷ counts list-8-u4 (list-of 0) 8
+    ∷ counts list-8-u4 four-hits 54
+    ∷ counts list-8-u4 (list-of 7 ++ times 7 (u4-is 9)) 86
+    ∷ counts variants (variant 0) 2
+    ∷ counts variants (variant 1 ++ u1-is 1) 4
+    ∷ counts variants (variant 2 ++ u1-is 1 ++ bool-is 0) 7
+    ∷ counts five-variants (variant 0) 2
+    ∷ counts five-variants (variant 4) 4
+    ∷ counts narrow-longer (variant 0 ++ u4-is 9) 12
+    ∷ counts narrow-longer (variant 1 ++ array-of 8 ++ times 8 (tuple-of 0)) 16
+    -- each row of the type, whatever the value; 15, 16, 21, 22
+    ∷ counts-none [] [] 1
+    ∷ counts-none long-type [] 2
+    ∷ counts-none bad-kind no-value 3
+    ∷ counts-none deep-type [] 4
+    ∷ counts-none (options 1) none-is 5
+    ∷ counts-none (options 1 ++ never) none-is 6
+    ∷ counts-none large-type [] 7
+    ∷ counts-none boolean [] 15
+    ∷ counts-none boolean (bool-is 0 ++ 0 ∷ []) 15
+    ∷ counts-none boolean no-value 16
+    ∷ counts-none boolean (bool-is 0 ++ bool-is 0) 16
+    ∷ counts-none list-4 (list-of 2 ++ u1-is 0) 16
+    ∷ counts-none u1 (u1-is 2) 21
+    ∷ counts-none list-2 (list-of 2) 22
+    -- the record whose fault comes first in the file decides
+    ∷ counts-none (two-of ++ u1 ++ list-2) (tuple-of 2 ++ u1-is 2 ++ list-of 2) 21
+    ∷ counts-none (two-of ++ list-2 ++ u1) (tuple-of 2 ++ list-of 2 ++ u1-is 2) 22
+    ∷ counts-none (two-of ++ u1 ++ u1) (tuple-of 2 ++ bool-is 0 ++ u1-is 2) 16
+    ∷ []
+
+-- and so does every case of room
+pub room-computed : all-hold room-table ≡ true
+unfolding digits-in times same-list holds all-hold room-table to-bits of-bits byte-bits bits-of pack fill number in-bytes next next-power-of-two btree-split-index grow btree fold type-records shape-records enum-injection partition-type partition head variant-parts read-type type-of lower has-never over-large inject encode same parse-at value-of lowering room shaped shape-room told-room told-count
+room-computed = refl

@@ -24,7 +24,7 @@ use Rattle.model.specs.Frames.{Place, width, frame-bytes, from-bits, str
 use Rattle.model.specs.Paths.{steps, found}
 use Rattle.model.specs.Laws.Options.{one-of-all}
 use Rattle.model.specs.Laws.Faults.{Tells, fault-tells, value-verdict}
-use Rattle.model.specs.Operations.{lowering, lowered, shaped, earlier-reading, earlier-reconstructed, reconstructed, cleaned-shape, framed, unframed, part-read, edited}
+use Rattle.model.specs.Operations.{lowering, lowered, room, shaped, shape-room, earlier-reading, earlier-reconstructed, reconstructed, cleaned-shape, framed, unframed, part-read, edited}
 
 -- THE ROWS OF EACH PLACE
 
@@ -217,6 +217,15 @@ lowered-row ty = step (lowering ty) _ (lowering-row ty) (λ t. finished _)
 pub shaped-row : (ty val : List ℕ) → Within (lowering-all ++ value-rows) (shaped ty val)
 unfolding shaped
 shaped-row ty val = step (lowering ty) _ (among refl (lowering-row ty)) (λ t. step (value-of t val) _ (among refl (value-row t val)) (λ v. finished _))
+
+-- what is told without a buffer has the rows of what it is told of
+pub room-row : (ty : List ℕ) → Within lowering-all (room ty)
+unfolding room
+room-row ty = step (lowering ty) _ (lowering-row ty) (λ t. finished _)
+
+pub shape-room-row : (ty val : List ℕ) → Within (lowering-all ++ value-rows) (shape-room ty val)
+unfolding shape-room
+shape-room-row ty val = step (shaped ty val) _ (shaped-row ty val) (λ shape. finished _)
 
 reading-row : (ty shape : List ℕ) → Within (type-rows ++ shape-rows) (earlier-reading ty shape)
 unfolding earlier-reading

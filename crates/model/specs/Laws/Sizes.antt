@@ -48,29 +48,45 @@ shape-size (is-pair {s = s} {t = t} h k) = omega (arith, length-append (shape-re
 pub frame-limit : (t : SType) → length (type-records t) ≤ most-shape-records → bytes-for (width t) ≤ 4096
 frame-limit t h = omega (arith, length-type-records t, width-nodes t)
 
+-- WHAT PARTS HAVE TOGETHER, by any measure
+
+abbrev pub sum-of : (SType → ℕ) → List SType → ℕ
+sum-of m [] = 0
+sum-of m (t ∷ ts) = m t + sum-of m ts
+
+module _ (m : SType → ℕ) where
+  sum-take-drop : (n : ℕ) (ts : List SType) → sum-of m (take n ts) + sum-of m (drop n ts) ≡ sum-of m ts
+  sum-take-drop zero ts = omega arith
+  sum-take-drop (suc n) [] = omega arith
+  sum-take-drop (suc n) (t ∷ ts) = omega (arith, sum-take-drop n ts)
+
+  sum-replicate : (n : ℕ) (t : SType) → sum-of m (replicate n t) ≡ n * m t
+  sum-replicate zero t = sym (zero-mul (m t))
+  sum-replicate (suc n) t = omega (arith, sum-replicate n t, suc-mul n (m t))
+
+  -- where a join counts one more than its two sides, a tree of n leaves counts n - 1 more than its parts
+  module _ (f : SType → SType → SType) (k : (a b : SType) → m (f a b) ≡ suc (m a + m b)) where
+    sum-fold : (t : BTree) (ts : List SType) → length ts ≡ leaves t → m (fold f 𝟙 t ts) + 1 ≡ sum-of m ts + leaves t
+    unfolding fold
+    sum-fold leaf [] h = absurd (omega arith)
+    sum-fold leaf (t ∷ []) h = omega arith
+    sum-fold leaf (t ∷ (u ∷ us)) h = absurd (omega arith)
+    sum-fold (fork l r) ts h =
+        omega (arith, k (fold f 𝟙 l (take (leaves l) ts)) (fold f 𝟙 r (drop (leaves l) ts)), sum-fold l (take (leaves l) ts) (size-left l r ts h), sum-fold r (drop (leaves l) ts) (size-right l r ts h), sum-take-drop (leaves l) ts)
+
+    -- and so does one of n parts, n at least 1
+    sum-parts : (n : ℕ) (ts : List SType) → length ts ≡ n → 1 ≤ n → m (fold f 𝟙 (btree n) ts) + 1 ≡ sum-of m ts + n
+    sum-parts n ts e h = let l = btree-leaves n h in sum-fold (btree n) ts (e ∙ sym l) ∙ ap (λ i. sum-of m ts + i) l
+
+  -- n parts that are the same, n at least 1
+  pub sum-array : ((a b : SType) → m (a ⊗ b) ≡ suc (m a + m b)) → (n : ℕ) (t : SType) → 1 ≤ n → m (productOf (replicate n t)) + 1 ≡ n * m t + n
+  sum-array k n t h = omega (arith, sum-parts _⊗_ k (length (replicate n t)) (replicate n t) refl (omega (arith, length-replicate n t)), sum-replicate n t, length-replicate n t)
+
 -- RECORDS OF BALANCED TREES
 
 -- the records of all parts
 abbrev pub nodes-all : List SType → ℕ
-nodes-all [] = 0
-nodes-all (t ∷ ts) = nodes t + nodes-all ts
-
-nodes-take-drop : (n : ℕ) (ts : List SType) → nodes-all (take n ts) + nodes-all (drop n ts) ≡ nodes-all ts
-nodes-take-drop zero ts = omega arith
-nodes-take-drop (suc n) [] = omega arith
-nodes-take-drop (suc n) (t ∷ ts) = omega (arith, nodes-take-drop n ts)
-
-nodes-fold : (f : SType → SType → SType) → ((a b : SType) → nodes (f a b) ≡ suc (nodes a + nodes b)) → (t : BTree) (ts : List SType) → length ts ≡ leaves t → nodes (fold f 𝟙 t ts) + 1 ≡ nodes-all ts + leaves t
-unfolding fold
-nodes-fold f k leaf [] h = absurd (omega arith)
-nodes-fold f k leaf (t ∷ []) h = omega arith
-nodes-fold f k leaf (t ∷ (u ∷ us)) h = absurd (omega arith)
-nodes-fold f k (fork l r) ts h =
-    omega (arith, k (fold f 𝟙 l (take (leaves l) ts)) (fold f 𝟙 r (drop (leaves l) ts)), nodes-fold f k l (take (leaves l) ts) (size-left l r ts h), nodes-fold f k r (drop (leaves l) ts) (size-right l r ts h), nodes-take-drop (leaves l) ts)
-
--- a product over a tree of n leaves has n - 1 records of its own
-pub nodes-product : (t : BTree) (ts : List SType) → length ts ≡ leaves t → nodes (product t ts) + 1 ≡ nodes-all ts + leaves t
-nodes-product = nodes-fold _⊗_ (λ a b. refl)
+nodes-all = sum-of nodes
 
 -- the type of the empty tuple, and of an array of 0, is one record
 pub nodes-none : nodes (productOf []) ≡ 1
@@ -79,31 +95,21 @@ nodes-none = refl
 
 -- a tuple of n parts, n at least 1, has n - 1 records of its own
 pub nodes-productOf : (ts : List SType) → 1 ≤ length ts → nodes (productOf ts) + 1 ≡ nodes-all ts + length ts
-nodes-productOf ts h = let l = btree-leaves (length ts) h in nodes-product (btree (length ts)) ts (sym l) ∙ ap (λ n. nodes-all ts + n) l
-
-nodes-replicate : (n : ℕ) (t : SType) → nodes-all (replicate n t) ≡ n * nodes t
-nodes-replicate zero t = sym (zero-mul (nodes t))
-nodes-replicate (suc n) t = omega (arith, nodes-replicate n t, suc-mul n (nodes t))
+nodes-productOf ts h = sum-parts nodes _⊗_ (λ a b. refl) (length ts) ts refl h
 
 -- an array of n parts, n at least 1: n times the part's records, and n - 1 of its own
 pub nodes-array : (n : ℕ) (t : SType) → 1 ≤ n → nodes (productOf (replicate n t)) + 1 ≡ n * nodes t + n
-nodes-array n t h = omega (arith, nodes-productOf (replicate n t) (omega (arith, length-replicate n t)), nodes-replicate n t, length-replicate n t)
+nodes-array = sum-array nodes (λ a b. refl)
 
 -- a balanced sum of n types, n at least 1, has n - 1 records of its own
 pub nodes-balanced-sum : (n : ℕ) (ts : List SType) → length ts ≡ n → 1 ≤ n → nodes (balanced-sum (btree n) ts) + 1 ≡ nodes-all ts + n
-nodes-balanced-sum n ts e h = let l = btree-leaves n h in nodes-fold _⊕_ (λ a b. refl) (btree n) ts (e ∙ sym l) ∙ ap (λ m. nodes-all ts + m) l
+nodes-balanced-sum = sum-parts nodes _⊕_ (λ a b. refl)
 
 -- WIDTHS OF BALANCED TREES
 
 -- the bits of all parts
 abbrev pub width-all : List SType → ℕ
-width-all [] = 0
-width-all (t ∷ ts) = width t + width-all ts
-
-width-take-drop : (n : ℕ) (ts : List SType) → width-all (take n ts) + width-all (drop n ts) ≡ width-all ts
-width-take-drop zero ts = omega arith
-width-take-drop (suc n) [] = omega arith
-width-take-drop (suc n) (t ∷ ts) = omega (arith, width-take-drop n ts)
+width-all = sum-of width
 
 -- a product's frame is its parts' frames, whatever the tree
 pub width-product : (t : BTree) (ts : List SType) → length ts ≡ leaves t → width (product t ts) ≡ width-all ts
@@ -111,7 +117,7 @@ unfolding fold
 width-product leaf [] h = absurd (omega arith)
 width-product leaf (t ∷ []) h = omega arith
 width-product leaf (t ∷ (u ∷ us)) h = absurd (omega arith)
-width-product (fork l r) ts h = ap₂ _+_ (width-product l (take (leaves l) ts) (size-left l r ts h)) (width-product r (drop (leaves l) ts) (size-right l r ts h)) ∙ width-take-drop (leaves l) ts
+width-product (fork l r) ts h = ap₂ _+_ (width-product l (take (leaves l) ts) (size-left l r ts h)) (width-product r (drop (leaves l) ts) (size-right l r ts h)) ∙ sum-take-drop width (leaves l) ts
 
 -- a tuple's bits are those of its parts together
 pub width-productOf : (ts : List SType) → width (productOf ts) ≡ width-all ts
@@ -119,13 +125,9 @@ unfolding btree grow fold
 width-productOf [] = refl
 width-productOf (t ∷ ts) = width-product (btree (suc (length ts))) (t ∷ ts) (sym (btree-leaves (suc (length ts)) (omega arith)))
 
-width-replicate : (n : ℕ) (t : SType) → width-all (replicate n t) ≡ n * width t
-width-replicate zero t = sym (zero-mul (width t))
-width-replicate (suc n) t = omega (arith, width-replicate n t, suc-mul n (width t))
-
 -- an array's bits are n times those of its part
 pub width-array : (n : ℕ) (t : SType) → width (productOf (replicate n t)) ≡ n * width t
-width-array n t = width-productOf (replicate n t) ∙ width-replicate n t
+width-array n t = width-productOf (replicate n t) ∙ sum-replicate width n t
 
 -- ONE STEP OF A TREE OF n PARTS: none, one, or n at least 2, split as the Rust splits it
 

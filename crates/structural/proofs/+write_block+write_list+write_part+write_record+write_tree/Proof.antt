@@ -20,7 +20,8 @@ use Rattle.structural.specs.Laws.Bounds.{bound-small}
 use Rattle.structural.specs.Laws.Trees.{room-some, tree-fork, tree-twice, given-copies}
 use Rattle.structural.specs.Laws.Lists.{list-two, Halved, list-more, list-fork}
 use Rattle.structural.specs.Laws.Forms.{level-some, next-fits, TreeOf, ListOf}
-use Rattle.structural.proofs.Steps.{as-tree, as-list, bit-room, bit-placed, copy-placed, part-given, part-room, part-inside, part-placed, block-second, block-start, block-room, block-done, block-length, block-fits, none-room, none-placed, one-room, one-placed, one-given, left-given, right-given, tree-placed, twice-placed}
+use Rattle.structural.specs.Laws.Parts.{as-tree, as-list, part-given, part-inside, one-given, left-given, right-given}
+use Rattle.structural.proofs.Steps.{bit-room, bit-placed, copy-placed, part-room, part-placed, block-second, block-start, block-room, block-done, block-length, block-fits, none-room, none-placed, one-room, one-placed, tree-placed, twice-placed}
 use Rattle.num.specs.declared.NonZeroPow2Usize.{NonZeroPow2Usize}
 use Rattle.structural.proofs.write_block.Reads as write-block
 use Rattle.structural.proofs.write_block.Kinds as write-block-kinds

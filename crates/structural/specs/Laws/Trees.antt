@@ -75,10 +75,14 @@ records-join Copies a b = refl
 records-join Types a b = refl
 records-join Choices a b = refl
 
--- a tree of two parts or more is written as the record that joins its sides, the left side and the right side
+-- a tree of two parts or more joins its sides
+pub tree-join : (k : Parts) (d : ℕ) (s : List ℕ) (n few p q : ℕ) → few ≡ btree-split-index n → (n ≡ 0 → ⊥) → (n ≡ 1 → ⊥) → q ≡ skip k d s few p → balanced k d s n p ≡ join k (balanced k d s few p) (balanced k d s (n - few) q)
+tree-join k d s n few p q e z o g = rw (g, e) (balanced-step k d s n p (omega arith))
+
+-- and is written as the record that joins them, the left side and the right side
 pub tree-fork : (k : Parts) (d : ℕ) (s : List ℕ) (n few p q b : ℕ) (out : List ℕ) → few ≡ btree-split-index n → (n ≡ 0 → ⊥) → (n ≡ 1 → ⊥) → b ≡ joint-of k → q ≡ skip k d s few p → Room (balanced k d s n p) out
     → Fork b (type-records (balanced k d s few p)) (type-records (balanced k d s (n - few) q)) (type-records (balanced k d s n p)) out
-tree-fork k d s n few p q b out e z o j g r = record { same = rw (g, j, e) (ap type-records (balanced-step k d s n p (omega arith)) ∙ records-join k _ _); room = r }
+tree-fork k d s n few p q b out e z o j g r = record { same = rw j (ap type-records (tree-join k d s n few p q e z o g) ∙ records-join k _ _); room = r }
 
 -- PARTS THAT ARE THE SAME
 
@@ -98,10 +102,23 @@ pub tree-twice : (k : Parts) (d : ℕ) (s : List ℕ) (n few p b : ℕ) (out : L
     → Fork b (type-records (balanced k d s few p)) (type-records (balanced k d s few p)) (type-records (balanced k d s n p)) out
 tree-twice k d s n few p b out e z o j h m r = subst (λ i. Fork b (type-records (balanced k d s few p)) (type-records (balanced k d s i p)) (type-records (balanced k d s n p)) out) (sym m) (tree-fork k d s n few p p b out e z o j (sym (skip-same k d s few p h)) r)
 
+-- their tree is an array's
+pub same-parts : (k : Parts) (d : ℕ) (s : List ℕ) (n p : ℕ) → all-same k ≡ true → balanced k d s n p ≡ productOf (replicate n (part k d s p))
+unfolding balanced
+same-parts k d s n p h =
+    ap (fold (join k) 𝟙 (btree n)) (row-stays k d s (same-after k d s h) n p)
+    ∙ ap₂ (λ (f : SType → SType → SType) (i : ℕ). fold f 𝟙 (btree i) (replicate n (part k d s p))) (pairs k h) (sym (length-replicate n (part k d s p)))
+  where
+    pairs : (k : Parts) → all-same k ≡ true → join k ≡ _⊗_
+    pairs Bits h = refl
+    pairs Copies h = refl
+    pairs Types h = absurd (let z : _≡_ {A = ℕ} 0 1 = cc in omega arith)
+    pairs Choices h = absurd (let z : _≡_ {A = ℕ} 0 1 = cc in omega arith)
+
 -- all copies of what stands at p
 pub copies : (d : ℕ) (s : List ℕ) (n p : ℕ) → balanced Copies d s n p ≡ productOf (replicate n (standing d s p))
-unfolding balanced part after
-copies d s n p = ap (fold _⊗_ 𝟙 (btree n)) (row-stays Copies d s (λ q. refl) n p) ∙ ap (λ i. fold _⊗_ 𝟙 (btree i) (replicate n (standing d s p))) (sym (length-replicate n (standing d s p)))
+unfolding part
+copies d s n p = same-parts Copies d s n p refl
 
 -- WHAT IS KNOWN OF PARTS
 

@@ -1,5 +1,5 @@
 //! Links libniegluk.a: the one in the folder that `NIEGLUK_LIB_DIR` names (a whole path), else the
-//! one that `rt staticlib niegluk` leaves in this repository.
+//! one that `make library` leaves in this repository.
 
 use std::env;
 use std::path::PathBuf;
@@ -18,7 +18,7 @@ fn main() {
     println!("cargo::rerun-if-changed={}", library.display());
     if !library.is_file() {
         println!(
-            "cargo::error=no file {} (make it: rt staticlib niegluk)",
+            "cargo::error=no file {} (make it: make library)",
             library.display()
         );
     }

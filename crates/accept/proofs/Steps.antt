@@ -18,7 +18,7 @@ use Rattle.types.specs.declared.Head.{Head}
 use Rattle.types.specs.Record.{head_at}
 use Rattle.types.specs.Heads.{Fair, FairBound}
 use Rattle.structural.specs.Forms.{Stands, standing, listed}
-use Rattle.structural.specs.Laws.Forms.{stands_inside}
+use Rattle.structural.proofs.Laws.Forms.{stands_inside}
 use Rattle.bits.specs.Bits.{bits_at, Inside}
 use Rattle.told.specs.declared.Parts.{Parts}
 use Rattle.told.specs.declared.Parts.TheVariants.{Copies, Types}

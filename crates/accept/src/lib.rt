@@ -1,5 +1,7 @@
 // The acceptance of frames (01, 'Frame'; ported from no Rust file): rows 11 and 12, and how many records the value has that a frame says.
 // A type and a frame are walked together, so that it is known before anything is written whether the value file fits.
+#![tactic(auto)]
+
 ghost use Rattle.std.specs.Prelude.{◌≡◌, false, ◌≤◌, ◌+◌, ◌*◌};
 ghost use Rattle.std.proofs.Math.Option.{some};
 ghost use Rattle.model.specs.Frames.{width};
@@ -31,14 +33,14 @@ const MOST: usize = 2162688;
 const LEVELS: usize = 32;
 
 // How many records a value has, or that a padding bit is 1.
-#[derive(Drop)]
+#[derive(Clone, Copy)]
 enum Seen {
     Of(usize),
     Stray,
 }
 
 // How many records the value file has, or why the frame is refused.
-#[derive(Drop)]
+#[derive(Clone, Copy)]
 pub enum Accepted {
     Records(usize),
     Refused(Refusal),

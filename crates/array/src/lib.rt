@@ -1,4 +1,6 @@
 // Balanced trees and trees of records, after array.rs.
+#![tactic(auto)]
+
 ghost use Rattle.std.specs.Prelude.{◌≡◌, ◌≤◌};
 ghost use Rattle.model.specs.Balanced.{next_power_of_two, btree_split_index};
 ghost use Rattle.array.specs.Lefts.{left_sizes};
@@ -46,7 +48,7 @@ pub fn btree_split_index(n: usize, lefts: &Lefts) -> usize
 }
 
 // Where a tree of records ends.
-#[derive(Drop)]
+#[derive(Clone, Copy)]
 pub enum TreeEnd {
     At(usize),
     Nothing,

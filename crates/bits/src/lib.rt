@@ -1,5 +1,7 @@
 // Bits of a byte slice, by shifts and masks: bit 0 is the highest bit of byte 0. They are 01's own, ported from no Rust file.
 // A function takes the whole slice and a bit number, keeps every other bit, and moves a byte at a time where a whole byte can move.
+#![tactic(auto)]
+
 ghost use Rattle.std.specs.Prelude.{◌≡◌, false, not, [], ◌∷◌, ◌+◌, ◌*◌, ◌<◌, ◌≤◌, length, get_or};
 ghost use Rattle.model.specs.Options.{any};
 ghost use Rattle.model.specs.Bytes.{byte_bits, bits_of, of_bits, zeros, in_bytes};

@@ -9,8 +9,8 @@ use Rattle.reply.specs.declared.Refusal.{Refusal}
 use Rattle.reply.specs.declared.Reply.{Reply}
 use Rattle.reply.specs.Numbers.{refusal_number, number_of, length_of}
 use Rattle.text.specs.Lines.{in_hex, refusal_line}
-use Rattle.text.specs.Laws.Sizes.{hex_length}
-use Rattle.text.specs.Laws.Refusals.{refusal_room}
+use Rattle.text.proofs.Laws.Sizes.{hex_length}
+use Rattle.text.proofs.Laws.Refusals.{refusal_room}
 use Rattle.io.specs.Counts.{IsPrefixLen}
 
 counts : (n : ℕ) (left : List ℕ) → n ≤ length left → IsPrefixLen n left

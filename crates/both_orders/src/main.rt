@@ -1,5 +1,7 @@
 // Two edits on the frame of one job (02, R-2): the camera's, of the hits, and the density sensor's, in both orders; two of the same part, and the second alone; and one to the value already there.
 // The last four are of parts of which one lies within the other: there the order counts, or the second edit is refused. Prints the frame that each pair leaves, in hexadecimal.
+#![tactic(auto)]
+
 ghost use Rattle.std.specs.Prelude.{◌≤◌, length};
 ghost use Rattle.io.specs.Counts.{IsPrefixLen};
 
@@ -10,7 +12,7 @@ use reply::{Reply, length_of};
 use text::{write_hex, write_refused};
 
 // An edit of the job's frame.
-#[derive(Drop)]
+#[derive(Clone, Copy)]
 enum Edit {
     // none
     Stay,

@@ -1,4 +1,6 @@
 // The program `clean`: reads old.typ and old.shape in the current folder, and makes the cleaned shape the file new.shape, or prints the line of the refusal.
+#![tactic(auto)]
+
 use cleaner::clean_here;
 
 fn main() {

@@ -13,8 +13,8 @@ use Rattle.reply.specs.declared.Reply.TheVariants.{Done, Refused}
 use Rattle.reply.specs.Numbers.{refusal_number, number_of, length_of}
 use Rattle.structural.specs.Writing.{Wrote}
 use Rattle.text.specs.Lines.{refusal_line}
-use Rattle.text.specs.Laws.Refusals.{number_range, refusal_room}
-use Rattle.text.specs.Laws.Written.{cut_out, wrote_counts}
+use Rattle.text.proofs.Laws.Refusals.{number_range, refusal_room}
+use Rattle.text.proofs.Laws.Written.{cut_out, wrote_counts}
 use Rattle.io.specs.Counts.{IsPrefixLen}
 use Rattle.cleaner.specs.Gives.{given}
 

@@ -1,17 +1,20 @@
 // What the program `clean` does in a folder. What it gives of the two files is made whole in a buffer, by the proved entry; the rest reads and writes.
+#![tactic(auto)]
+
 ghost use Rattle.std.specs.Prelude.{◌≡◌, ◌≤◌, length, take};
 ghost use Rattle.model.specs.Operations.{cleaned_shape};
 ghost use Rattle.io.specs.Counts.{IsPrefixLen};
 ghost use Rattle.cleaner.specs.Gives.{given};
 
 use files::{read_file, read_records, write_file};
-use libc::STDOUT_FILENO;
 use niegluk::clean_shape;
 use reply::Reply;
+use std::io;
+use std::rt::Files;
 use text::write_refused;
 
 // What stands over the front of a buffer: a cleaned shape, or else the line of a refusal, of so many bytes.
-#[derive(Drop)]
+#[derive(Clone, Copy)]
 pub struct Made {
     pub cleaned: bool,
     pub len: usize,
@@ -37,23 +40,31 @@ pub fn make(ty: &[u8], shape: &[u8], out: &mut [u8]) -> Made
 
 // Reads the type file and the shape file of these names, and makes the cleaned shape the file `new`, by way of the file `part`, or prints the line of the refusal.
 // Of a file that is missing no byte is read. Of one that is longer than its buffer the front is read, and of a type file the length but for multiples of 4, so that
-// the number is the whole file's: 8 for a shape, 1 or 2 for a type.
-pub fn clean_files(old_type: &[u8], old_shape: &[u8], new: &[u8], part: &[u8]) {
+// the number is the whole file's: 8 for a shape, 1 or 2 for a type. Where the file `new` is not made, why goes to standard error. Only printing can fail.
+pub fn clean_files(
+    rt: &(impl Files + Print + Eprint),
+    old_type: &str,
+    old_shape: &str,
+    new: &str,
+    part: &str,
+) -> io::Result<()> {
     let mut ty = [0u8; 65540];
     let mut shape = [0u8; 65540];
     let mut out = [0u8; 65536];
-    let n = read_records(old_type, &mut ty);
-    let m = read_file(old_shape, &mut shape);
+    let n = read_records(rt, old_type, &mut ty);
+    let m = read_file(rt, old_shape, &mut shape);
     let made = make(&ty[..n], &shape[..m], &mut out);
     let k = made.len;
     if !made.cleaned {
-        io::write_all(STDOUT_FILENO, &out[..k]);
-    } else if !write_file(new, part, &out[..k]) {
-        os::fail(new);
+        return rt.write_all(&out[..k]);
+    }
+    match write_file(rt, new, part, &out[..k]) {
+        Ok(()) => Ok(()),
+        Err(e) => eprintln!(rt; "{new}: {e}"),
     }
 }
 
 // What the program `clean` does, in the current folder.
-pub fn clean_here() {
-    clean_files(b"old.typ", b"old.shape", b"new.shape", b"new.shape.part");
+pub fn clean_here(rt: &(impl Files + Print + Eprint)) -> io::Result<()> {
+    clean_files(rt, "old.typ", "old.shape", "new.shape", "new.shape.part")
 }

@@ -1,5 +1,7 @@
 // Puts folders through the function that the program `find` is, one after the other: a frame in each place among the pieces, several, none, a damaged one before the one that matches, frames that are longer than a piece, refusals, and files that are long or missing.
 // A day file is read in pieces of 8 bytes, mostly four frames, so that the indexes are those of the file only if the pieces go on rightly. Its line is printed, and then the one that `make` gives of the same files, the day file in one piece.
+#![tactic(auto)]
+
 use files::{read_file, read_records};
 use finder::{find_files, make};
 use libc::STDOUT_FILENO;

@@ -19,7 +19,7 @@ use Rattle.types.specs.declared.TypeAnswer.TheVariants.{Ok, Refused}
 use Rattle.types.specs.Trees.{tree}
 use Rattle.types.specs.Lows.{low}
 use Rattle.structural.specs.Forms as structural
-use Rattle.structural.specs.Laws.Forms.{stands, standing_is}
+use Rattle.structural.proofs.Laws.Forms.{stands, standing_is}
 use Rattle.table.specs.Tabled.{Tabled}
 use Rattle.value.specs.declared.Checked.{Checked}
 use Rattle.value.specs.declared.Checked.TheVariants.{Next, Bad}
@@ -28,7 +28,7 @@ use Rattle.told.specs.Forms as told
 use Rattle.told.specs.Widths.{Wide}
 use Rattle.told.specs.Laws.Widths.{tabled_wide}
 use Rattle.frame.specs.Forms.{Room, Filed}
-use Rattle.frame.specs.Laws.Files.{frame_room, frame_filed}
+use Rattle.frame.proofs.Laws.Files.{frame_room, frame_filed}
 use Rattle.delivery.specs.Delivering.{Delivers, deliver_refusal, deliver_no_room, deliver_result}
 use Rattle.delivery.specs.Values.{value_refused, value_read, value_valid}
 use Rattle.delivery.specs.Lowers.{lower_given, lowers}

@@ -31,7 +31,7 @@ use Rattle.told.specs.Forms as told
 use Rattle.told.specs.Laws.Whole.{whole_told}
 use Rattle.told.specs.Widths.{Wide}
 use Rattle.frame.specs.Forms.{frame_at, Fitted, Framed}
-use Rattle.frame.specs.Laws.Told.{shape_fitted, shape_framed}
+use Rattle.frame.proofs.Laws.Told.{shape_fitted, shape_framed}
 use Rattle.accept.specs.declared.Accepted.{Accepted}
 use Rattle.accept.specs.declared.Accepted.TheVariants as accepts
 use Rattle.accept.specs.Answers.{Lowered, accepted, outcome_of}

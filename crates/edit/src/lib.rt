@@ -1,4 +1,6 @@
 // Part read and part edit of a frame (01, 'Part read and part edit'; ported from no Rust file), for a type that lowers, with its ends and widths.
+#![tactic(auto)]
+
 ghost use Rattle.std.specs.Prelude.{◌≡◌, false};
 ghost use Rattle.model.specs.Calls.{PartRead, PartEdit};
 ghost use Rattle.reply.specs.Numbers.{number_of, length_of};

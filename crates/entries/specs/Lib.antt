@@ -1,7 +1,5 @@
 -- The table of a type file as the code fills it and hands it out, and what its reader answers.
 pub mod Entries
 pub mod Filled
-pub mod Handed
 pub mod Answers
-pub mod Reading
 pub mod Given

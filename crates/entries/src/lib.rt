@@ -1,5 +1,7 @@
 // The table of a type file as 01 names it: a lent slice of structs, one entry for each type record, owned by each public entry.
-// Few functions hold the slice, and each is proved by hand: `fill` puts the table down, `hand_out` copies the columns that the walks go over, `read_type` is the two around the reading of the type.
+// Few functions hold the slice: `fill` puts the table down, `hand_out` copies the columns that the walks go over, `read_type` is the two around the reading of the type.
+#![tactic(auto)]
+
 ghost use Rattle.std.specs.Prelude.{◌≡◌, ◌<◌, ◌≤◌, length, take, drop};
 ghost use Rattle.array.specs.Lefts.{left_sizes};
 ghost use Rattle.entries.specs.Entries.{entry_at, filled, handed};
@@ -14,7 +16,7 @@ use types::{TypeAnswer, check_type};
 const WORD: usize = 4294967296;
 
 // What is known of a type record: where its subtree ends, the records of what it lowers to and the bits of its frame; of a Variant, its payload type's. All are below 2^17, so 32 bits hold them.
-#[derive(Drop)]
+#[derive(Clone, Copy)]
 pub struct Entry {
     pub end: u32,
     pub size: u32,
@@ -31,7 +33,7 @@ impl Entry {
 }
 
 // The entry of a type file's first record, or why the file is refused.
-#[derive(Drop)]
+#[derive(Clone, Copy)]
 pub enum Read {
     Root(Entry),
     Refused(Refusal),

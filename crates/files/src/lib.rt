@@ -1,74 +1,94 @@
 // Files of a folder, read and written whole.
-ghost use Rattle.std.specs.Prelude.{◌≤◌};
+#![tactic(auto)]
+
+ghost use Rattle.std.specs.Prelude.{◌≡◌, ◌<◌, ◌≤◌, IfOk, length, take};
+ghost use Rattle.std.specs.Io.{ReadsAtMost};
+ghost use Rattle.std.specs.Io.KnownBytes.{Consumes, IsAtEnd};
 ghost use Rattle.io.specs.Counts.{IsPrefixLen};
 
-// No file has so many times 64 bytes.
-const MOST_ROUNDS: usize = 1 << 58;
+use std::fs::{File, OpenFile, OpenOptions};
+use std::io::{Read, Write};
+use std::rt::Files;
+use std::{fs, io};
 
-// Reads the file of that name to the front of the buffer, and answers how many bytes; 0 where it cannot be opened or read.
-// A read that fails ends `read_full` as the file's end does: only at the end does one more read find nothing.
-pub fn read_file(path: &[u8], buf: &mut [u8]) -> usize
-    ensures { IsPrefixLen result buf.new }
+// Reads until the buffer is full or the reader ends, and answers how many bytes it put to the front of the buffer. They are the next that the reader had.
+pub fn fill<R: Read>(reader: &mut R, buf: &mut [u8]) -> io::Result<usize>
+    ensures bound { ReadsAtMost result buf.new }
+    ensures len { length buf.new ≡ length buf.old }
+    ensures bytes { IfOk result (λ n. Consumes (R.remaining reader.old) (R.remaining reader.new) (take n buf.new)) }
+    ensures end { IfOk result (λ n. n < length buf.old → IsAtEnd (R.remaining reader.new)) }
 {
-    let fd = os::open_read(path);
-    if fd < 0 {
-        return 0;
+    let mut done = 0;
+    while done < buf.len() {
+        let n = reader.read(&mut buf[done..])?;
+        if n == 0 {
+            return Ok(done);
+        }
+        done += n;
     }
-    let n = io::read_full(fd, buf);
-    let mut more = [0u8; 1];
-    let is_cut = n < buf.len() && libc::read(fd, &mut more) != 0;
-    libc::close(fd);
-    if is_cut {
-        return 0;
-    }
-    n
+    Ok(done)
 }
 
-// How many bytes of a file are still to be read, but for multiples of 4.
-fn left_over(fd: i32) -> usize
+// Reads the file of that name to the front of the buffer, and answers how many bytes; 0 where it cannot be opened or read.
+pub fn read_file<R: Files>(rt: &R, path: &str, buf: &mut [u8]) -> usize
+    ensures { IsPrefixLen result buf.new }
+{
+    match File::open(rt, path) {
+        Ok(mut file) => fill(&mut file, buf).unwrap_or(0),
+        Err(_) => 0,
+    }
+}
+
+// How many bytes a reader still has, but for multiples of 4. A read that fails counts as its end.
+fn left_over<R: Read>(reader: &mut R) -> usize
     ensures { result ≤ 3 }
 {
     let mut over = 0;
-    let mut rounds = 0;
-    while rounds < MOST_ROUNDS {
-        let mut chunk = [0u8; 64];
-        let n = io::read_full(fd, &mut chunk);
-        over = (over + n % 4) % 4;
-        if n < 64 {
-            return over;
+    let mut chunk = [0u8; 4096];
+    for _ in 0..u64::MAX {
+        let n = reader.read(&mut chunk).unwrap_or(0);
+        if n == 0 {
+            break;
         }
-        rounds += 1;
+        over = (over + n % 4) % 4;
     }
     over
 }
 
 // As `read_file`, to a buffer of 65,540 bytes. Of a longer file the front is there, and the answer is from 65,536 to 65,539: the file's length, but for multiples of 4.
-pub fn read_records(path: &[u8], buf: &mut [u8; 65540]) -> usize
+pub fn read_records<R: Files>(rt: &R, path: &str, buf: &mut [u8; 65540]) -> usize
     ensures { IsPrefixLen result buf.new }
 {
-    let n = read_file(path, buf);
-    if n < 65540 {
-        return n;
+    match File::open(rt, path) {
+        Ok(mut file) => {
+            let n = fill(&mut file, buf).unwrap_or(0);
+            if n < 65540 {
+                return n;
+            }
+            65536 + left_over(&mut file)
+        }
+        Err(_) => 0,
     }
-    let fd = os::open_read(path);
-    let over = left_over(fd);
-    libc::close(fd);
-    65536 + over
 }
 
-// Makes these bytes the whole of the file of that name, and answers whether it did. They are written to a new file, `part`, which then takes the name: whatever
-// fails, the name stands for what it stood for before. A file or a link that has the name `part` already is removed, and nothing behind a link is touched.
-pub fn write_file(path: &[u8], part: &[u8], bytes: &[u8]) -> bool {
-    os::unlink(part);
-    let fd = os::create(part);
-    if fd < 0 {
-        return false;
+// Writes these bytes to an open file, waits until they are on the disk, and closes it.
+fn write_whole<F: Write + OpenFile + Drop>(file: F, bytes: &[u8]) -> io::Result<()> {
+    let mut file = file;
+    file.write_all(bytes)?;
+    file.sync_all()
+}
+
+// Makes these bytes the whole of the file of that name. They are written to a new file, `part`, which then takes the name: whatever fails, the name stands for what it
+// stood for before. A file or a link that has the name `part` already is removed, and nothing behind a link is touched.
+pub fn write_file<R: Files>(rt: &R, path: &str, part: &str, bytes: &[u8]) -> io::Result<()> {
+    let _ = fs::remove_file(rt, part);
+    let file = OpenOptions::new()
+        .write(true)
+        .create_new(true)
+        .open(rt, part)?;
+    let made = write_whole(file, bytes).and_then(|_| fs::rename(rt, part, path));
+    if made.is_err() {
+        let _ = fs::remove_file(rt, part);
     }
-    let is_written = io::write_all(fd, bytes) && libc::fsync(fd) == 0;
-    let is_closed = libc::close(fd) == 0;
-    if is_written && is_closed && os::rename(part, path) == 0 {
-        return true;
-    }
-    os::unlink(part);
-    false
+    made
 }

@@ -1,7 +1,9 @@
 -- What `find` knows at its answers: the line has room, and each piece goes on from the front before it.
 use Rattle.std.proofs.Math.Path.{◌≡◌, refl, ap}
 use Rattle.std.proofs.Common.{sym, ◌∙◌, arith, add-mul, one-mul, mul-one, mul-le-mul_left, le-div_iff_mul-le, div-mul-le_self, length-append, length-take-le}
-use Rattle.std.specs.Prelude.{List, [], ◌++◌, take}
+use Rattle.std.specs.Prelude.{List, [], ◌++◌, take, IfSome, Option as Known}
+use Rattle.std.specs.Io.KnownBytes.{Consumes, IsAtEnd}
+use Rattle.std.proofs.KnownBytes.{Consumes-nil, Consumes-trans, Consumes-whole}
 use Rattle.std.proofs.Math.Option.{Option, none, some}
 use Prim.Native.Nat.{ℕ, zero, suc, ◌+◌, ◌*◌, ◌/◌, ◌^◌, ◌≤◌, ◌<◌}
 use Rattle.std.proofs.Math.ListN.{length}
@@ -28,9 +30,9 @@ use Rattle.reply.specs.Numbers.{refusal_number, room_number, room_of, found_numb
 use Rattle.structural.specs.Writing.{Wrote}
 use Rattle.io.specs.Counts.{IsPrefixLen}
 use Rattle.text.specs.Lines.{found_line, none_line, refusal_line}
-use Rattle.text.specs.Laws.Sizes.{found_short}
-use Rattle.text.specs.Laws.Refusals.{number_range, refusal_room}
-use Rattle.text.specs.Laws.Written.{cut_out, wrote_counts}
+use Rattle.text.proofs.Laws.Sizes.{found_short}
+use Rattle.text.proofs.Laws.Refusals.{number_range, refusal_room}
+use Rattle.text.proofs.Laws.Written.{cut_out, wrote_counts}
 use Rattle.finder.specs.Says.{said, Tells, GoesOn, Sized, ReadOn, Kept, Answers}
 
 -- THE LINE
@@ -162,28 +164,38 @@ module _ (count size len : ℕ) (buf : List ℕ) (h : count * size ≤ len) (l :
 
 -- PIECE BY PIECE
 
-module _ (ty path val : List ℕ) where
-  pub kept_first : (found : Found) → Search ty [] path val (found_number found) (found_at found) → Kept ty path val 0 found
-  kept_first found h = record { front = []; frames = no_frames ty; keeps = h }
+-- the piece that a read put to the front of the buffer
+module _ (had left : Known (List ℕ)) (ty path val : List ℕ) (k : ℕ) (so_far further : Found) (n : ℕ) (buf : List ℕ) where
+  pub read_piece : (most : ℕ) → IsPrefixLen n buf → length buf ≡ most → GoesOn ty (take n buf) path val k so_far further → Consumes had left (take n buf) → (n < most → IsAtEnd left) → ReadOn had left most ty path val k so_far n further
+  read_piece most p l g t e = record { piece = take n buf; as_long = p.1; in_buffer = omega (arith, p.0); goes_on = g; taken = t; ended = e }
 
-  module _ (k : ℕ) (so_far : Found) (len : ℕ) (further : Found) (a : Kept ty path val k so_far) (r : ReadOn ty path val k so_far len further) where
+module _ (ty path val : List ℕ) where
+  pub kept_first : (had : Known (List ℕ)) (found : Found) → Search ty [] path val (found_number found) (found_at found) → Kept had had ty path val 0 found
+  kept_first had found h = record { front = []; frames = no_frames ty; keeps = h; taken = Consumes-nil had }
+
+  module _ (had mid left : Known (List ℕ)) (k : ℕ) (so_far : Found) (most len : ℕ) (further : Found) (a : Kept had mid ty path val k so_far) (r : ReadOn mid left most ty path val k so_far len further) where
     both_keep : Search ty (a.front ++ r.piece) path val (found_number further) (found_at further)
     both_keep = r.goes_on.goes_on a.front a.frames a.keeps
 
+    both_taken : Consumes had left (a.front ++ r.piece)
+    both_taken = Consumes-trans had mid left a.front r.piece a.taken r.taken
+
     -- the piece was the last
-    pub kept_answers : Answers ty path val further
-    kept_answers = record { day = a.front ++ r.piece; keeps = both_keep }
+    pub kept_answers : (len ≡ most → ⊥) → Answers had left ty path val further
+    kept_answers apart = record { day = a.front ++ r.piece; keeps = both_keep; taken = both_taken; ended = r.ended (omega (arith, r.in_buffer)) }
 
     -- it was whole
-    pub kept_more : (count : ℕ) (piece : List ℕ) → Frames ty count piece → len ≡ length piece → Kept ty path val (k + count) further
+    pub kept_more : (count : ℕ) (piece : List ℕ) → Frames ty count piece → len ≡ length piece → Kept had left ty path val (k + count) further
     kept_more count piece f l = record {
       front = a.front ++ r.piece;
       frames = record { as_long = λ t e. length-append a.front r.piece ∙ longer t e };
       keeps = both_keep;
+      taken = both_taken;
     }
       where
         longer : (t : Ty) → lowering ty ≡ done t → length a.front + length r.piece ≡ (k + count) * frame_bytes t
         longer t e = omega (arith, a.frames.as_long t e, f.as_long t e, r.as_long, add-mul k count (frame_bytes t))
 
-  pub kept_all : (k : ℕ) (found : Found) → Kept ty path val k found → Answers ty path val found
-  kept_all k found a = record { day = a.front; keeps = a.keeps }
+  -- a reader at its end gave all the bytes that it had
+  pub answers_known : (had left : Known (List ℕ)) (found : Found) → Answers had left ty path val found → IfSome had (λ day. Search ty day path val (found_number found) (found_at found))
+  answers_known had left found a = Consumes-whole had left a.day (λ day. Search ty day path val (found_number found) (found_at found)) a.taken a.ended a.keeps

@@ -1,5 +1,6 @@
 -- What the program `find` prints: the line of what a search answers, by its number and its index. And what is known of an answer while a day file is read piece by piece.
-use Rattle.std.specs.Prelude.{◌≡◌, List, ◌++◌, ℕ, zero, suc, ◌≤◌, length}
+use Rattle.std.specs.Prelude.{◌≡◌, List, ◌++◌, ℕ, zero, suc, ◌≤◌, ◌<◌, length, Option as Known}
+use Rattle.std.specs.Io.KnownBytes.{Consumes, IsAtEnd}
 use Rattle.std.proofs.Math.Option.{Option, none, some}
 use Rattle.model.specs.Outcome.{done}
 use Rattle.model.specs.Types.{Ty}
@@ -33,19 +34,27 @@ pub record Sized (ty : List ℕ) (size : ℕ) : Type 0 where
   pub size_is : (t : Ty) → lowering ty ≡ done t → size ≡ frame_bytes t
   pub most : size ≤ 4096
 
--- an answer keeps the promise for some front of so many frames
-pub record Kept (ty path val : List ℕ) (before : ℕ) (found : Found) : Type 0 where
+-- Below, `had` and `left` are the bytes that a reader has before and after, where they are known.
+
+-- an answer keeps the promise for some front of so many frames, and that front was read
+pub record Kept (had left : Known (List ℕ)) (ty path val : List ℕ) (before : ℕ) (found : Found) : Type 0 where
   pub front : List ℕ
   pub frames : Frames ty before front
   pub keeps : Search ty front path val (found_number found) (found_at found)
+  pub taken : Consumes had left front
 
--- some piece of so many bytes was read behind the front
-pub record ReadOn (ty path val : List ℕ) (before : ℕ) (so_far : Found) (len : ℕ) (further : Found) : Type 0 where
+-- some piece of so many bytes was read behind the front, and where it is shorter than the buffer nothing is left
+pub record ReadOn (had left : Known (List ℕ)) (most : ℕ) (ty path val : List ℕ) (before : ℕ) (so_far : Found) (len : ℕ) (further : Found) : Type 0 where
   pub piece : List ℕ
   pub as_long : len ≡ length piece
+  pub in_buffer : len ≤ most
   pub goes_on : GoesOn ty piece path val before so_far further
+  pub taken : Consumes had left piece
+  pub ended : len < most → IsAtEnd left
 
--- an answer keeps the promise for some day file
-pub record Answers (ty path val : List ℕ) (found : Found) : Type 0 where
+-- an answer keeps the promise for some day file, which was read to its end
+pub record Answers (had left : Known (List ℕ)) (ty path val : List ℕ) (found : Found) : Type 0 where
   pub day : List ℕ
   pub keeps : Search ty day path val (found_number found) (found_at found)
+  pub taken : Consumes had left day
+  pub ended : IsAtEnd left

@@ -1,6 +1,8 @@
 // What the program `find` does in a folder. Its line is made whole in a buffer, by the proved entry; the rest reads and writes.
 // A day file may have any length. It is read in pieces of whole frames, and each search goes on where the one before it ended.
-ghost use Rattle.std.specs.Prelude.{[], ◌≡◌, ◌+◌, ◌*◌, ◌^◌, ◌≤◌, ◌<◌, length, take};
+#![tactic(auto)]
+
+ghost use Rattle.std.specs.Prelude.{[], ◌≡◌, ◌+◌, ◌*◌, ◌^◌, ◌≤◌, ◌<◌, IfOk, IfSome, length, take};
 ghost use Rattle.model.specs.Calls.{Search};
 ghost use Rattle.day_files.specs.Pieces.{Frames};
 ghost use Rattle.reply.specs.Numbers.{found_number, found_at};
@@ -8,10 +10,13 @@ ghost use Rattle.structural.specs.Writing.{Wrote};
 ghost use Rattle.io.specs.Counts.{IsPrefixLen};
 ghost use Rattle.finder.specs.Says.{said, Tells, GoesOn, Sized, ReadOn, Answers};
 
-use files::{read_file, read_records};
-use libc::{STDERR_FILENO, STDOUT_FILENO};
+use files::{fill, read_file, read_records};
 use niegluk::{room, search};
 use reply::{Found, RoomReply};
+use std::fs::File;
+use std::io;
+use std::io::{ErrorKind, Read};
+use std::rt::Files;
 use text::{write_found, write_none, write_refused};
 
 // The bytes of the buffer that a day file is read to, piece by piece.
@@ -23,15 +28,8 @@ const MOST_VALUE: usize = 1048576;
 // No file has so many frames.
 const MOST_FRAMES: usize = 1 << 63;
 
-// What searching a day file comes to: what is found, or that the file was not opened or not read to its end.
-#[derive(Drop)]
-enum Looked {
-    Done(Found),
-    Unread,
-}
-
 // What is found up to the end of a piece, and the bytes of the piece.
-#[derive(Drop)]
+#[derive(Clone, Copy)]
 struct Further {
     found: Found,
     len: usize,
@@ -106,76 +104,74 @@ fn frames_at_once(size: usize, most: usize, len: usize) -> usize
     len / size
 }
 
-// Reads the next piece of an open day file, as long as `piece` or what is left, and answers what is found up to its end.
-fn read_on(
-    fd: i32,
+// Reads the next piece of a day file, as long as `piece` or what is left, and answers what is found up to its end.
+fn read_on<R: Read>(
+    reader: &mut R,
     ty: &[u8],
     path: &[u8],
     value: &[u8],
     before: usize,
     so_far: Found,
     piece: &mut [u8],
-) -> Further
+) -> io::Result<Further>
     requires { before < 2 ^ 63 }
-    ensures { ReadOn ty.now path.now value.now before so_far result.len result.found }
+    ensures read_on { IfOk result (λ further. ReadOn (R.remaining reader.old) (R.remaining reader.new) (length piece.old) ty.now path.now value.now before so_far further.len further.found) }
+    ensures len { length piece.new ≡ length piece.old }
 {
-    let n = io::read_full(fd, piece);
+    let n = fill(reader, piece)?;
     let found = go_on(ty, &piece[..n], path, value, before, so_far);
-    Further { found, len: n }
+    Ok(Further { found, len: n })
 }
 
-// Reads an open day file from its start in pieces of `count` frames, and answers what is found in it, where `first` is found in no frame at all.
-// It is what may be found in some day file: no contract can say in which, since none can say what is read.
-fn search_open(
-    fd: i32,
+// Reads a day file to its end in pieces of `count` frames, and answers what is found in it, where `first` is found in no frame at all.
+// What a file gives no contract can say: of one the answer is that of some day file. Of a reader whose bytes are known it is the answer of those bytes.
+fn search_open<R: Read>(
+    reader: &mut R,
     ty: &[u8],
     path: &[u8],
     value: &[u8],
     count: usize,
     first: Found,
     piece: &mut [u8],
-) -> Found
+) -> io::Result<Found>
     requires le_count { (1 ≤ count) × (count ≤ length piece.old) }
     requires frames { Frames ty.now count piece.old }
     requires search { Search ty.now [] path.now value.now (found_number first) (found_at first) }
-    ensures { Answers ty.now path.now value.now result }
+    ensures answers { IfOk result (Answers (R.remaining reader.old) (R.remaining reader.new) ty.now path.now value.now) }
+    ensures known { IfSome (R.remaining reader.old) (λ day. IfOk result (λ found. Search ty.now day path.now value.now (found_number found) (found_at found))) }
 {
     let mut found = first;
     let mut before = 0;
     while before < MOST_FRAMES {
-        let further = read_on(fd, ty, path, value, before, found, piece);
+        let further = read_on(reader, ty, path, value, before, found, piece)?;
         found = further.found;
         if further.len != piece.len() {
-            return found;
+            return Ok(found);
         }
         before += count;
     }
-    found
+    Err(io::Error::from(ErrorKind::FileTooLarge))
 }
 
-// Searches the day file of that name.
-// A read that fails ends `read_full` as the file's end does: only at the end does one more read find nothing.
-fn search_file(name: &[u8], ty: &[u8], path: &[u8], value: &[u8], most: usize) -> Looked {
+// Searches the day file of that name; an error where it is not opened or not read to its end.
+fn search_file(
+    rt: &impl Files,
+    name: &str,
+    ty: &[u8],
+    path: &[u8],
+    value: &[u8],
+    most: usize,
+) -> io::Result<Found> {
     let first = search(ty, b"", path, value);
     let size = frame_size(ty);
     if size == 0 {
-        return Looked::Done(first);
+        return Ok(first);
     }
-    let fd = os::open_read(name);
-    if fd < 0 {
-        return Looked::Unread;
-    }
-    let mut buf = io::large_buffer();
+    let mut file = File::open(rt, name)?;
+    let mut buf = [0u8; PIECE];
     let count = frames_at_once(size, most, PIECE);
     let whole = count * size;
-    let found = search_open(fd, ty, path, value, count, first, &mut buf[..whole]);
-    let mut more = [0u8; 1];
-    let is_cut = libc::read(fd, &mut more) != 0;
-    libc::close(fd);
-    if is_cut {
-        return Looked::Unread;
-    }
-    Looked::Done(found)
+    search_open(&mut file, ty, path, value, count, first, &mut buf[..whole])
 }
 
 // Zeros for the longest value file that `find` takes, and for one byte more, so that a longer file shows.
@@ -186,64 +182,51 @@ fn value_buffer() -> [u8; 1048577]
 }
 
 // Prints the line of what a search found.
-fn print(found: Found) {
+fn print(rt: &impl Print, found: Found) -> io::Result<()> {
     let mut out = [0u8; 27];
     let n = say(found, &mut out);
-    io::write_all(STDOUT_FILENO, &out[..n]);
-}
-
-// Says to standard error why nothing is printed of a file.
-fn complain(name: &[u8], why: &[u8]) {
-    io::write_all(STDERR_FILENO, name);
-    io::write_all(STDERR_FILENO, why);
+    rt.write_all(&out[..n])
 }
 
 // Can the file of that name be opened?
-fn opens(name: &[u8]) -> bool {
-    let fd = os::open_read(name);
-    if fd < 0 {
-        return false;
-    }
-    libc::close(fd);
-    true
+fn opens(rt: &impl Files, name: &str) -> bool {
+    File::open(rt, name).is_ok()
 }
 
 // Reads the type file, the path and the value file of these names, and prints what is found in the day file, which is read in pieces of `most` bytes, or of one frame where that is more.
 // A type file that is missing is empty, and refused. Of a type file or a path that is longer than its buffer the front is read, and the length but for multiples of 4, so that
 // the answer is the whole file's: 1 or 2 for a type, and 13 or nowhere for a path. Where one of the other three is missing, the value file is longer, or the day file
-// is not read to its end, there is no answer: that is said to standard error, and nothing is printed.
+// is not read to its end, there is no answer: that is said to standard error, and nothing is printed. Only printing can fail.
 pub fn find_files(
-    type_name: &[u8],
-    day_name: &[u8],
-    path_name: &[u8],
-    value_name: &[u8],
+    rt: &(impl Files + Print + Eprint),
+    type_name: &str,
+    day_name: &str,
+    path_name: &str,
+    value_name: &str,
     most: usize,
-) {
+) -> io::Result<()> {
     let mut ty = [0u8; 65540];
     let mut path = [0u8; 65540];
     let mut value = value_buffer();
-    let n = read_records(type_name, &mut ty);
-    if !opens(path_name) {
-        complain(path_name, b": not opened\n");
-        return;
+    let n = read_records(rt, type_name, &mut ty);
+    if !opens(rt, path_name) {
+        return eprintln!(rt; "{path_name}: not opened");
     }
-    let m = read_records(path_name, &mut path);
-    if !opens(value_name) {
-        complain(value_name, b": not opened\n");
-        return;
+    let m = read_records(rt, path_name, &mut path);
+    if !opens(rt, value_name) {
+        return eprintln!(rt; "{value_name}: not opened");
     }
-    let k = read_file(value_name, &mut value);
+    let k = read_file(rt, value_name, &mut value);
     if MOST_VALUE < k {
-        complain(value_name, b": more than 1,048,576 bytes\n");
-        return;
+        return eprintln!(rt; "{value_name}: more than 1,048,576 bytes");
     }
-    match search_file(day_name, &ty[..n], &path[..m], &value[..k], most) {
-        Looked::Done(found) => print(found),
-        Looked::Unread => complain(day_name, b": not opened, or not read to its end\n"),
+    match search_file(rt, day_name, &ty[..n], &path[..m], &value[..k], most) {
+        Ok(found) => print(rt, found),
+        Err(_) => eprintln!(rt; "{day_name}: not opened, or not read to its end"),
     }
 }
 
 // What the program `find` does, in the current folder.
-pub fn find_here() {
-    find_files(b"day.typ", b"day.frames", b"day.path", b"day.val", PIECE);
+pub fn find_here(rt: &(impl Files + Print + Eprint)) -> io::Result<()> {
+    find_files(rt, "day.typ", "day.frames", "day.path", "day.val", PIECE)
 }

@@ -1,5 +1,7 @@
 // Puts folders through the function that `job` prints by, one after the other: eight hits in a list bounded at eight, a number too large for
 // its width, a value of another type, a type that does not lower, a file that is too long, a file that is missing, a type of width 0, four hits in a list bounded at eight.
+#![tactic(auto)]
+
 use files::read_file;
 use libc::STDOUT_FILENO;
 use report::report;

@@ -31,10 +31,10 @@ use Rattle.told.specs.Laws.Lists.{block_share}
 use Rattle.told.specs.Laws.Rows.{after_is}
 use Rattle.told.specs.Widths.{Wide}
 use Rattle.frame.specs.Forms.{Bits, and_then, frame_at, row, tags, chosen, block, listed, Fitted, Framed, Tagged}
-use Rattle.frame.specs.Laws.Told.{frame_width}
-use Rattle.frame.specs.Laws.Lists.{tag_true, block_zeros, block_row, list_block, Halved, list_halved, share_one}
-use Rattle.frame.specs.Laws.Writing.{fitted_as, framed_as, framed_none, fitted_first, fitted_rest, framed_then}
-use Rattle.frame.specs.Laws.Forms.{BitsFramed, SumFramed, length_record_bits}
+use Rattle.frame.proofs.Laws.Told.{frame_width}
+use Rattle.frame.proofs.Laws.Lists.{tag_true, block_zeros, block_row, list_block, Halved, list_halved, share_one}
+use Rattle.frame.proofs.Laws.Writing.{fitted_as, framed_as, framed_none, fitted_first, fitted_rest, framed_then}
+use Rattle.frame.proofs.Laws.Forms.{BitsFramed, SumFramed, length_record_bits}
 
 -- RECORDS
 

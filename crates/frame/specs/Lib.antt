@@ -1,3 +1,2 @@
--- What the writers of a frame ask and answer; `Laws` has what is proved of it.
+-- What the writers of a frame ask and answer; `Laws` in proofs/ has what is proved of it.
 pub mod Forms
-pub mod Laws

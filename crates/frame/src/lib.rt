@@ -1,5 +1,7 @@
 // The frame of a value (01, 'Frame'; ported from no Rust file): its bits, from its value file and its type file, which were checked before.
 // A writer takes the whole buffer and a bit number, and writes each bit of its stretch once.
+#![tactic(auto)]
+
 ghost use Rattle.std.specs.Prelude.{◌≡◌, false, ◌⊎◌, ◌+◌, ◌/◌, ◌≤◌, ◌<◌, length};
 ghost use Rattle.model.specs.Balanced.{btree};
 ghost use Rattle.model.specs.Frames as frames;
@@ -24,7 +26,7 @@ use types::head_at;
 const RECORD: usize = 36;
 
 // The record after the values that were written, and the bit after their bits.
-#[derive(Drop)]
+#[derive(Clone, Copy)]
 struct Row {
     next: usize,
     bit: usize,

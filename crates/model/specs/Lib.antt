@@ -1,4 +1,4 @@
--- The papers' definitions; `Laws` has what is proved of them.
+-- The papers' definitions; `Laws` in proofs/ has what is proved of them.
 pub mod Numbers
 pub mod Outcome
 pub mod Options

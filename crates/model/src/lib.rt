@@ -1,1 +1,2 @@
-// The papers' definitions and what is proved of them, all in `specs/`: this crate has no code.
+// The papers' definitions, in `specs/`, and what is proved of them, in `proofs/`: this crate has no code.
+#![tactic(auto)]

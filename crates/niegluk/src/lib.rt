@@ -1,6 +1,8 @@
 // The public entries: each takes whole files and a buffer for its result (an edit: the frame that it changes; three that only tell numbers: none), asks nothing of its caller, and answers a `Reply`, a `RoomReply` or a `Found`.
-// Each owns the table of the type file and the left sizes, lends both to `read_type`, and leaves the rest to its operation. The functions that own the table are proved by hand.
+// Each owns the table of the type file and the left sizes, lends both to `read_type`, and leaves the rest to its operation. `niegluk_c` has them as C functions.
 // What each promises of a call is an equation of `crates/model/specs/Calls.antt`; of a search, whose index is free where several frames match, what holds of the index. How an entry is added: docs/ENTRIES.md.
+#![tactic(auto)]
+
 ghost use Rattle.model.specs.Edits.{Edited};
 ghost use Rattle.model.specs.Frames.{after};
 ghost use Rattle.model.specs.Calls.{Lower, Room, WriteShape, ShapeRecords, Reconstruct, CleanShape, WriteFrame, ReadFrame, PartRead, PartEdit, Search};
@@ -9,8 +11,6 @@ ghost use Rattle.reply.specs.Numbers.{number_of, length_of, room_number, room_of
 use array::left_sizes;
 use entries::{Entry, read_type};
 use reply::{Found, Reply, RoomReply};
-
-mod c;
 
 // Writes the lowered type of a type file over the front of `out`, and answers its length; every byte behind it stays, and all of them where it is refused.
 pub fn lower(ty: &[u8], out: &mut [u8]) -> Reply

@@ -1,5 +1,6 @@
 // Powers of two, after num.rs: a list bound and a bit width keep their two types.
 // `new` admits what a type file can say (01, kinds 7 and 2): bounds from 2 to 32,768, widths from 1 to 256.
+#![tactic(auto)]
 
 ghost use Rattle.std.specs.Prelude.{◌≡◌, ◌≤◌};
 ghost use Rattle.num.specs.Powers.{exponent_of, bound_of, bound_log2, half_bound, width_of};
@@ -8,7 +9,7 @@ ghost use Rattle.num.specs.Powers.{exponent_of, bound_of, bound_log2, half_bound
 const BOUND_POWERS: usize = 16;
 
 // The exponent of a power of two, if the number is one.
-#[derive(Drop)]
+#[derive(Clone, Copy)]
 enum Found {
     At(usize),
     Nothing,
@@ -32,11 +33,11 @@ fn exponent(n: usize, count: usize) -> Found
 }
 
 // An integer that is known to be a power of two with nonzero exponent: a list bound.
-#[derive(Drop)]
+#[derive(Clone, Copy)]
 pub struct NonZeroPow2Usize(usize);
 
 // A list bound, where there is one.
-#[derive(Drop)]
+#[derive(Clone, Copy)]
 pub enum Bound {
     Of(NonZeroPow2Usize),
     Not,
@@ -101,11 +102,11 @@ impl NonZeroPow2Usize {
 }
 
 // An integer that is known to be a power of two: a bit width.
-#[derive(Drop)]
+#[derive(Clone, Copy)]
 pub struct Pow2Usize(usize);
 
 // A bit width, where there is one.
-#[derive(Drop)]
+#[derive(Clone, Copy)]
 pub enum Width {
     Of(Pow2Usize),
     Not,

@@ -1,5 +1,7 @@
 // What the entries do once a type file was read (`entries`): the rows behind the type's, and the result.
 // Each takes what `read_type` answered, the columns that it handed out and the left sizes, and is called by the public entry of its name.
+#![tactic(auto)]
+
 ghost use Rattle.std.specs.Prelude.{◌≡◌, true, false};
 ghost use Rattle.model.specs.Calls.{Lower, Room, WriteShape, ShapeRecords, Reconstruct, CleanShape, WriteFrame, ReadFrame, PartRead, PartEdit, Search};
 ghost use Rattle.model.specs.Edits.{Edited};

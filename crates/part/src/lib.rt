@@ -1,5 +1,7 @@
 // Paths into a frame (01, 'Part read and part edit'; ported from no Rust file): rows 13 and 14, and where a part stands.
 // A path is followed in the type and in the frame at once; nothing of the value is read but the tags on the way.
+#![tactic(auto)]
+
 ghost use Rattle.std.specs.Prelude.{◌≡◌, ◌+◌, ◌-◌, ◌*◌, ◌^◌, ◌%◌, ◌≤◌, ◌<◌, length, get_or};
 ghost use Rattle.num.specs.Powers.{bound_log2};
 ghost use Rattle.model.specs.Balanced.{btree};
@@ -24,14 +26,14 @@ use value::wide;
 const LEVELS: usize = 32;
 
 // Where a step leads: to the type's record of a part, with so many levels from there on, and the part's first bit.
-#[derive(Drop)]
+#[derive(Clone, Copy)]
 pub enum Place {
     At(usize, usize, usize),
     Nowhere,
 }
 
 // Where a path leads: the same of a part, or why it is refused.
-#[derive(Drop)]
+#[derive(Clone, Copy)]
 pub enum Target {
     Part(usize, usize, usize),
     Refused(Refusal),

@@ -1,6 +1,8 @@
 // A frame's bits behind a reader that holds the bytes and the next bit. The functions over the reader are thin: each makes it or takes it apart,
 // and leaves the work to crate `bits`. The borrow checker covers no function that has such a struct, so each is proved by a walk of its MIR.
 // Whoever calls the last three, whose parameters are plain slices, needs no such walk.
+#![tactic(auto)]
+
 ghost use Rattle.std.specs.Prelude.{◌≡◌, false, not, ◌+◌, ◌*◌, ◌<◌, ◌≤◌, ◌^◌, length, get_or};
 ghost use Rattle.model.specs.Options.{any};
 ghost use Rattle.model.specs.Bytes.{bits_of, of_bits, in_bytes};
@@ -9,7 +11,7 @@ ghost use Rattle.bits.specs.Bits.{bits_at, Inside};
 use bits::{get_bit, is_zero_run, read_uint};
 
 // After the Rust's `ValueRef`: the bytes of a frame, and the next bit.
-#[derive(Drop)]
+#[derive(Clone, Copy)]
 pub struct FrameReader<'a> {
     pub bytes: &'a [u8],
     pub bit: usize,

@@ -1,5 +1,7 @@
 // Shape files, and the first pass of `reconstruct`, after value.rs: a type and a shape are walked together, and the records of the value file
 // are counted, and the shape's records beyond one where a unit belongs.
+#![tactic(auto)]
+
 ghost use Rattle.std.specs.Prelude.{◌≡◌, false, ◌≤◌, get_or, length};
 ghost use Rattle.model.specs.Numbers.{most_shape_records};
 ghost use Rattle.array.specs.Lefts.{left_sizes};
@@ -37,28 +39,28 @@ const LEVELS: usize = 32;
 
 // What reading gives: the place after the shape that was read, the number of value records and the surplus, or that it cannot be read.
 // The surplus is the shape's records beyond one where an empty tuple, an array of 0 or a variant without parts is read.
-#[derive(Drop)]
+#[derive(Clone, Copy)]
 enum Read {
     Of(usize, usize, usize),
     Not,
 }
 
 // How many records a value file has, and the shape's surplus; or that there is no value.
-#[derive(Drop)]
+#[derive(Clone, Copy)]
 pub enum Records {
     Of(usize, usize),
     Not,
 }
 
 // What rows 8 and 9 say of a shape file.
-#[derive(Drop)]
+#[derive(Clone, Copy)]
 pub enum ShapeAnswer {
     Ok,
     Refused(Refusal),
 }
 
 // What the parts of a balanced product are, and where they stand in the type file.
-#[derive(Drop)]
+#[derive(Clone, Copy)]
 pub enum Parts {
     // the bits of an integer, all of them told by its one record
     Bits,
@@ -69,7 +71,7 @@ pub enum Parts {
 }
 
 // How a record is read: not at all, as a product of so many parts, as a sum, as a list, or as a Variant's payload, which is no record of the value.
-#[derive(Drop)]
+#[derive(Clone, Copy)]
 pub enum Form {
     Refused,
     Product(Parts, usize),

@@ -1,4 +1,6 @@
 // One record of a value file (01, 'Value file'; ported from no Rust file), written: 36 bytes, kind, choice, a number of two bytes, an integer of 32 bytes. And how a type's record says to read a value.
+#![tactic(auto)]
+
 ghost use Rattle.std.specs.Prelude.{◌≡◌, ◌<◌, ◌≤◌, length};
 ghost use Rattle.types.specs.Heads.{Fair};
 ghost use Rattle.model.specs.ValueFiles.{rec};
@@ -11,7 +13,7 @@ use told::Parts;
 use types::Head;
 
 // How a type's record is read: as a bit, as an integer of so many, as a product of so many parts, as a sum, as a list, or as a Variant's payload, which is no record of the value.
-#[derive(Drop)]
+#[derive(Clone, Copy)]
 pub enum Form {
     Nothing,
     Bit,
@@ -23,7 +25,7 @@ pub enum Form {
 }
 
 // The kind, choice and number of a record.
-#[derive(Drop)]
+#[derive(Clone, Copy)]
 struct Mark {
     kind: u8,
     choice: usize,

@@ -9,6 +9,8 @@
 // The files that an entry does not take are empty. So many bytes are lent as the room tells: the frame of an edit, otherwise all 0xA5.
 // The result of `room` and of `shape_records` are the numbers that they tell, three bytes each. That of `search` has a byte for each frame up to the last that
 // matches: 1 where it matches, else 0. It is empty where none does.
+#![tactic(auto)]
+
 ghost use Rattle.std.specs.Prelude.{◌+◌, ◌≤◌, ◌<◌, ◌≡◌, length};
 ghost use Rattle.replay.specs.Cases.{Stands};
 
@@ -50,7 +52,7 @@ const SEARCHES: u8 = 11;
 const LAST: u8 = 11;
 
 // What the head of a case tells, and where its files start in the body. The entry is 0 where the case cannot be read, or is of no entry.
-#[derive(Drop)]
+#[derive(Clone, Copy)]
 struct Case {
     entry: u8,
     number: u8,
@@ -63,7 +65,7 @@ struct Case {
 }
 
 // How many cases an entry has, and how many of them differ.
-#[derive(Drop)]
+#[derive(Clone, Copy)]
 struct Tally {
     cases: u64,
     differ: u64,

@@ -1,9 +1,11 @@
 // What an operation answers: the length of its result, the number or the numbers that it tells, or why it is refused. One refusal for each row of the table (01, with 02's numbers), in its order.
+#![tactic(auto)]
+
 ghost use Rattle.std.specs.Prelude.{◌≡◌};
 ghost use Rattle.model.specs.DayFiles.{told_index};
 ghost use Rattle.reply.specs.Numbers.{refusal_number, number_of, length_of, room_number, room_of, found_number, found_at};
 
-#[derive(Drop)]
+#[derive(Clone, Copy)]
 pub enum Refusal {
     TypeLength,
     TypeTooLong,
@@ -29,14 +31,14 @@ pub enum Refusal {
     NoRoom,
 }
 
-#[derive(Drop)]
+#[derive(Clone, Copy)]
 pub enum Reply {
     Done(usize),
     Refused(Refusal),
 }
 
 // The room that a type takes: the records of its lowered type, the bits of a frame, and the most records of a shape.
-#[derive(Drop)]
+#[derive(Clone, Copy)]
 pub struct TypeRoom {
     pub lowered: usize,
     pub bits: usize,
@@ -52,14 +54,14 @@ impl TypeRoom {
     };
 }
 
-#[derive(Drop)]
+#[derive(Clone, Copy)]
 pub enum RoomReply {
     Done(TypeRoom),
     Refused(Refusal),
 }
 
 // What a search answers: the index of a frame that matches, from 0, that there is none, or why it is refused.
-#[derive(Drop)]
+#[derive(Clone, Copy)]
 pub enum Found {
     At(usize),
     Nowhere,

@@ -29,11 +29,11 @@ use Rattle.told.specs.Forms as told
 use Rattle.shape.specs.Forms as shape
 use Rattle.shape.specs.Laws.Whole.{value_ready, value_shaped}
 use Rattle.frame.specs.Forms as frame
-use Rattle.frame.specs.Laws.Files.{frame_room, frame_filed}
+use Rattle.frame.proofs.Laws.Files.{frame_room, frame_filed}
 use Rattle.text.specs.Lines.{job_lines, refusal_line}
-use Rattle.text.specs.Laws.Sizes.{job_short}
-use Rattle.text.specs.Laws.Refusals.{refusal_room}
-use Rattle.text.specs.Laws.Written.{cut_out, wrote_counts}
+use Rattle.text.proofs.Laws.Sizes.{job_short}
+use Rattle.text.proofs.Laws.Refusals.{refusal_room}
+use Rattle.text.proofs.Laws.Written.{cut_out, wrote_counts}
 use Rattle.io.specs.Counts.{IsPrefixLen}
 use Rattle.delivery.specs.Lowers.{lower_given, lowers, lowers_small}
 use Rattle.delivery.specs.Values.{value_refused, value_read, value_valid}

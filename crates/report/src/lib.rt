@@ -1,5 +1,7 @@
 // What the program `job` prints of a type file and a value file, made whole in a buffer.
 // The type is read once and the value checked once; the three results are written into buffers that always hold them.
+#![tactic(auto)]
+
 ghost use Rattle.std.specs.Prelude.{◌≡◌, ◌≤◌, length};
 ghost use Rattle.io.specs.Counts.{IsPrefixLen};
 ghost use Rattle.structural.specs.Writing.{Wrote};

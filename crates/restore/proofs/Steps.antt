@@ -29,8 +29,8 @@ use Rattle.bits.specs.Bits as bits
 use Rattle.bits.specs.Laws.Writing.{wrote_then, wrote_same}
 use Rattle.structural.specs.Forms.{ending, Stands}
 use Rattle.structural.specs.Writing.{put, Wrote}
-use Rattle.structural.specs.Laws.Forms.{stands_end, stands_inside}
-use Rattle.structural.specs.Laws.Writing.{rest, back, wrote_none, wrote_length}
+use Rattle.structural.proofs.Laws.Forms.{stands_end, stands_inside}
+use Rattle.structural.proofs.Laws.Writing.{rest, back, wrote_none, wrote_length}
 use Rattle.told.specs.declared.Parts.{Parts}
 use Rattle.told.specs.declared.Parts.TheVariants.{Copies, Types}
 use Rattle.told.specs.Forms.{after, skip, GivenParts, hops, Hops}

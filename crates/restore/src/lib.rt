@@ -1,5 +1,7 @@
 // The second pass of `reconstruct`, after value.rs: a type and a shape are walked together, and the value file is written.
 // The shape was read before and gives a value, so nothing is tested again.
+#![tactic(auto)]
+
 ghost use Rattle.std.specs.Prelude.{◌≡◌, false, ◌<◌, ◌≤◌, ◌+◌, length, get_or};
 ghost use Rattle.num.specs.Powers.{half_bound};
 ghost use Rattle.array.specs.Lefts.{left_sizes};
@@ -32,14 +34,14 @@ const INTEGER_BITS: usize = 256;
 const LEVELS: usize = 32;
 
 // The place after the shape that was read, and the number of bytes written.
-#[derive(Drop)]
+#[derive(Clone, Copy)]
 struct Written {
     next: usize,
     len: usize,
 }
 
 // The same of what has a number: of parts the type's record after them, of a sum the choice taken, of a list how many elements.
-#[derive(Drop)]
+#[derive(Clone, Copy)]
 struct Numbered {
     number: usize,
     next: usize,

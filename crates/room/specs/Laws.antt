@@ -15,10 +15,10 @@ use Rattle.types.specs.Heads.{FairBound, bound_range, log_range}
 use Rattle.structural.specs.declared.Parts.{Parts}
 use Rattle.structural.specs.declared.Parts.TheVariants.{Bits, Copies, Types, Choices}
 use Rattle.structural.specs.Forms.{join, all_same, standing, Stands, part, after, skip, balanced, GivenPart, listed}
-use Rattle.structural.specs.Laws.Bounds.{power_of}
-use Rattle.structural.specs.Laws.Trees.{skip_same, balanced_none, balanced_one, tree_join, same_parts}
-use Rattle.structural.specs.Laws.Forms.{stands_end, TreeOf, ListOf}
-use Rattle.structural.specs.Laws.Parts.{Told, InRow, told_is, part_given, sides_next}
+use Rattle.structural.proofs.Laws.Bounds.{power_of}
+use Rattle.structural.proofs.Laws.Trees.{skip_same, balanced_none, balanced_one, tree_join, same_parts}
+use Rattle.structural.proofs.Laws.Forms.{stands_end, TreeOf, ListOf}
+use Rattle.structural.proofs.Laws.Parts.{Told, InRow, told_is, part_given, sides_next}
 use Rattle.room.specs.declared.Longest.{Longest}
 use Rattle.room.specs.Counting.{Small, joined, Counted}
 

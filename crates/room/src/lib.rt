@@ -1,5 +1,7 @@
 // The most records that a shape of a type has (R-1 of 02; ported from no Rust file), in one walk over the type file: each record is looked at once at most, whatever its type lowers to.
 // Of parts that are all the same, and of a list's elements, one is looked at, and the others are counted with it.
+#![tactic(auto)]
+
 ghost use Rattle.std.specs.Prelude.{◌≡◌, false, ◌+◌, ◌-◌, ◌*◌, ◌≤◌};
 ghost use Rattle.model.specs.Numbers.{most_shape_records};
 ghost use Rattle.model.specs.Room.{longest_shape};
@@ -17,7 +19,7 @@ use structural::{Form, Parts, are_same, form_of};
 use types::head_at;
 
 // The record after some parts, and the most records of a shape of what they make.
-#[derive(Drop)]
+#[derive(Clone, Copy)]
 struct Longest {
     next: usize,
     most: usize,

@@ -1,5 +1,7 @@
 // The search of a day file (02, R-4; ported from no Rust file), for a type that lowers, with its ends and widths: frames of the type end to end, one of which has a certain part.
 // No value file is built and no frame is copied: the value's own bits are made once for each type that the part has in turn, and compared with the part's stretch of each frame.
+#![tactic(auto)]
+
 ghost use Rattle.std.specs.Prelude.{◌≡◌, false, ◌+◌, ◌*◌, ◌≤◌, ◌<◌, length, get_or};
 ghost use Rattle.model.specs.Calls.{Search};
 ghost use Rattle.model.specs.DayFiles.{frames_in};
@@ -26,14 +28,14 @@ use value::{Checked, check_part};
 const LONGEST: usize = 4096;
 
 // Of which type the sought bits are, by its record and the levels from there on, and whether the value file says a value of it.
-#[derive(Drop)]
+#[derive(Clone, Copy)]
 enum Sought {
     Unknown,
     Of(usize, usize, bool),
 }
 
 // Whether a frame matches, and if not, of which type the sought bits are.
-#[derive(Drop)]
+#[derive(Clone, Copy)]
 enum Look {
     Match,
     Not(Sought),

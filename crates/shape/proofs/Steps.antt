@@ -7,16 +7,17 @@ use native.Mathlib.Omega.{arith}
 use mir.Syntax.{w64}
 use mir.Val.{Fits}
 use lib.ListN.{length, set}
+use Rattle.num.specs.declared.NonZeroPow2Usize.{NonZeroPow2Usize}
 use Rattle.model.specs.Balanced.{btree_split_index}
 use Rattle.model.specs.Structural.{unit, left, shape_records}
 use Rattle.structural.specs.Forms.{Stands}
-use Rattle.structural.specs.Laws.Forms.{stands_end}
-use Rattle.structural.specs.Laws.Writing.{wrote_none, wrote_set}
+use Rattle.structural.proofs.Laws.Forms.{stands_end}
+use Rattle.structural.proofs.Laws.Writing.{wrote_none, wrote_set}
 use Rattle.told.specs.declared.Parts.{Parts}
 use Rattle.told.specs.declared.Parts.TheVariants.{Copies, Types}
-use Rattle.told.specs.Forms.{standing, after, skip, balanced, chosen, after_at}
+use Rattle.told.specs.Forms.{standing, after, skip, balanced, chosen, after_at, listed}
 use Rattle.told.specs.Laws.Trees.{balanced_none, balanced_one, balanced_step}
-use Rattle.told.specs.Laws.Lists.{chosen_one, chosen_left, chosen_right, block_told, block_none, block_some}
+use Rattle.told.specs.Laws.Lists.{chosen_one, chosen_left, chosen_right, block_told, block_none, block_some, Halved}
 use Rattle.shape.specs.Forms.{Ready, Placed}
 use Rattle.shape.specs.Laws.Writing.{ready_room, Stem, left_stem, right_stem, Pair, pair_of}
 
@@ -74,3 +75,10 @@ module _ (d : ℕ) (s val : List ℕ) (n p v : ℕ) (out : List ℕ) (r : Ready 
     pub empty_placed : Placed (block_told d s val n p v) out (set (set out 0 1) 1 0) v 2
     unfolding shape_records
     empty_placed = let l = empty_room in record { shape = left unit; told = empty_is; wrote = wrote_set (wrote_set (wrote_none out) 1 (omega arith)) 0 (omega arith) }
+
+-- LISTS
+
+-- a list with a larger bound is written as a pair of its block and the list with half the bound
+pub list_pair : {b h : NonZeroPow2Usize} {m n d : ℕ} {s val : List ℕ} {p v : ℕ} {out : List ℕ} → Halved b h m n d s val p v → Ready (listed d s val b m p v) out
+    → Pair (listed d s val b m p v) (block_told d s val n p v) (listed d s val h (m - n) p) out
+list_pair h r = pair_of h.same r

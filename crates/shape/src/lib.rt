@@ -1,5 +1,7 @@
 // The shape of a value, after value.rs: one byte a record, parent first, from its value file and its type file, which were checked before.
 // The right side of a pair is written into the rest of the buffer after its left, so that each byte is written once.
+#![tactic(auto)]
+
 ghost use Rattle.std.specs.Prelude.{◌≡◌, false, ◌≤◌, ◌<◌};
 ghost use Rattle.model.specs.Structural.{unit, shape_records};
 ghost use Rattle.model.specs.Values.{bit};
@@ -31,14 +33,14 @@ const PAIR: u8 = 3;
 const RECORD: usize = 36;
 
 // The record after the value that was written, and the number of bytes.
-#[derive(Drop)]
+#[derive(Clone, Copy)]
 struct Written {
     next: usize,
     len: usize,
 }
 
 // The type's record after the parts that were written, the record after their values, and the number of bytes.
-#[derive(Drop)]
+#[derive(Clone, Copy)]
 struct Row {
     at: usize,
     next: usize,

@@ -21,9 +21,9 @@ use Rattle.types.specs.declared.Head.{Head}
 use Rattle.types.specs.Record.{head_at}
 use Rattle.types.specs.Heads.{Fair, FairBound}
 use Rattle.structural.specs.Forms.{most_parts, Stands}
-use Rattle.structural.specs.Laws.Bounds.{bound_small}
-use Rattle.structural.specs.Laws.Forms.{level_some}
-use Rattle.structural.specs.Laws.Writing.{rest, back, wrote_none, wrote_set, wrote_as}
+use Rattle.structural.proofs.Laws.Bounds.{bound_small}
+use Rattle.structural.proofs.Laws.Forms.{level_some}
+use Rattle.structural.proofs.Laws.Writing.{rest, back, wrote_none, wrote_set, wrote_as}
 use Rattle.told.specs.Forms.{Told, hops}
 use Rattle.shape.specs.Forms.{Ready, Placed}
 use Rattle.shape.specs.Laws.Writing.{ready_some, placed_length, Stem, left_stem, right_stem, stem_ready, stem_small, stem_done, Pair, pair_of, left_ready, pair_small, pair_fits, right_ready, pair_total, pair_done}

@@ -1,6 +1,8 @@
 // Cleaning a shape (R-6), the second pass: a type and a shape that was read before are walked together, and the shape is copied, with a unit at
 // each spot where an empty tuple, an array of 0 or a variant without parts is read.
 // The right side of a pair is written into the rest of the buffer after its left, so that each byte is written once.
+#![tactic(auto)]
+
 ghost use Rattle.std.specs.Prelude.{◌≡◌, false, ◌≤◌};
 ghost use Rattle.array.specs.Lefts.{left_sizes};
 ghost use Rattle.types.specs.Heads.{FairBound};
@@ -29,7 +31,7 @@ const RIGHT: u8 = 2;
 const PAIR: u8 = 3;
 
 // The place after the shape that was copied, and the number of bytes.
-#[derive(Drop)]
+#[derive(Clone, Copy)]
 struct Copied {
     next: usize,
     len: usize,

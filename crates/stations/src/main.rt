@@ -1,5 +1,7 @@
 // Puts folders of stored shapes through the function that the program `clean` is, one after the other, and prints what new.shape then holds, a digit a record:
 // spots of every kind, a shape that passes, an older new.shape, which is replaced, a type that does not lower, and refusals, where none is made and an older one stays; first in the folder that it runs in, as `clean`.
+#![tactic(auto)]
+
 use cleaner::{clean_files, clean_here};
 use files::read_file;
 use libc::STDOUT_FILENO;

@@ -14,10 +14,10 @@ use Rattle.structural.specs.declared.Parts.TheVariants.{Bits, Copies, Types, Cho
 use Rattle.structural.specs.declared.Written.{Written}
 use Rattle.structural.specs.Writing.{Wrote}
 use Rattle.structural.specs.Forms.{Room, all_same, standing, Stands, part, after, skip, balanced, GivenPart, Placed, block_of}
-use Rattle.structural.specs.Laws.Writing.{rest, back, wrote_none, wrote_set, wrote_length, wrote_room, wrote_lent}
-use Rattle.structural.specs.Laws.Trees.{skip_same, balanced_none, balanced_one}
-use Rattle.structural.specs.Laws.Forms.{stands_end}
-use Rattle.structural.specs.Laws.Parts.{Told, InRow, told_is, part_given, sides_next}
+use Rattle.structural.proofs.Laws.Writing.{rest, back, wrote_none, wrote_set, wrote_length, wrote_room, wrote_lent}
+use Rattle.structural.proofs.Laws.Trees.{skip_same, balanced_none, balanced_one}
+use Rattle.structural.proofs.Laws.Forms.{stands_end}
+use Rattle.structural.proofs.Laws.Parts.{Told, InRow, told_is, part_given, sides_next}
 
 -- PARTS
 

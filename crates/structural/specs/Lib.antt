@@ -1,4 +1,3 @@
--- What the lowered type's writer answers; `Laws` has what is proved of it.
+-- What the lowered type's writer answers; `Laws` in proofs/ has what is proved of it.
 pub mod Writing
 pub mod Forms
-pub mod Laws

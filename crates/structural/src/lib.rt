@@ -1,5 +1,7 @@
 // The lowered type of a type file, after types/structural.rs: one byte a record, parent first.
 // The right side of a tree is written into the rest of the buffer after its left, so that each byte is written once; a right side that is the same as the left is copied from it.
+#![tactic(auto)]
+
 ghost use Rattle.std.specs.Prelude.{◌≡◌, false, ◌++◌, ◌+◌, ◌≤◌, length, take};
 ghost use Rattle.model.specs.Structural.{𝟙, ◌⊕◌, type_records};
 ghost use Rattle.array.specs.Lefts.{left_sizes};
@@ -21,7 +23,7 @@ const SUM: u8 = 1;
 const PRODUCT: u8 = 2;
 
 // What the parts of a balanced tree are, and where they stand in the type file.
-#[derive(Drop)]
+#[derive(Clone, Copy)]
 pub enum Parts {
     // the bits of an integer, all of them told by its one record
     Bits,
@@ -34,14 +36,14 @@ pub enum Parts {
 }
 
 // What a record's lowered type is: a balanced tree of so many parts, or a list.
-#[derive(Drop)]
+#[derive(Clone, Copy)]
 pub enum Form {
     Tree(Parts, usize),
     List(NonZeroPow2Usize),
 }
 
 // The record after the parts that were written, and the number of bytes.
-#[derive(Drop)]
+#[derive(Clone, Copy)]
 struct Written {
     next: usize,
     len: usize,

@@ -38,12 +38,12 @@ cut_plus a b c e = ap (λ k. cut (k + c)) e ∙ again b c
     again b c = omega arith
 
 -- a product's facts, from what its parts' add up to
-product_of : (ts : List SType) (n : ℕ) → length ts ≡ n → product (record { size = cut (0 + nodes_all ts); width = cut (0 + width_all ts) }) n ≡ facts_true (product_of ts)
+product_counted : (ts : List SType) (n : ℕ) → length ts ≡ n → product (record { size = cut (0 + nodes_all ts); width = cut (0 + width_all ts) }) n ≡ facts_true (product_of ts)
 unfolding product
-product_of [] zero h = same_facts (ap cut (sym nodes_none)) (ap cut (sym (width_product_of [])))
-product_of [] (suc n) h = absurd (omega arith)
-product_of (t ∷ ts) zero h = absurd (omega arith)
-product_of (t ∷ ts) (suc n) h =
+product_counted [] zero h = same_facts (ap cut (sym nodes_none)) (ap cut (sym (width_product_of [])))
+product_counted [] (suc n) h = absurd (omega arith)
+product_counted (t ∷ ts) zero h = absurd (omega arith)
+product_counted (t ∷ ts) (suc n) h =
     let a = nodes_product_of (t ∷ ts) (omega arith) in
     let b = width_product_of (t ∷ ts) in
     rw (ne_eqb (suc n) 0 (λ z. omega arith)) (same_facts (omega arith) (omega arith))
@@ -85,7 +85,7 @@ module _ (d : ℕ) (s E S W : List ℕ) (g : Ends s E) (p : ℕ) (m : Measured s
       (entry_size d false s E S W g p m p f.end (omega arith) f.walks, entry_width d false s E S W g p m p f.end (omega arith) f.walks)
 
   row_facts : (n e : ℕ) → many (walk d false s) n p ≡ End e → product (sums E S W n p 0 0) n ≡ facts_true (product_of (lows d false s n p))
-  row_facts n e h = ap (λ f. product f n) (sums_right d false s E S W g p m n p e 0 0 (omega arith) h) ∙ product_of (lows d false s n p) n (length_lows d false s n p)
+  row_facts n e h = ap (λ f. product f n) (sums_right d false s E S W g p m n p e 0 0 (omega arith) h) ∙ product_counted (lows d false s n p) n (length_lows d false s n p)
 
   sum_facts : (n e : ℕ) → 1 ≤ n → many (walk d true s) n p ≡ End e → ◌≡◌ {A = facts.Facts} (record { size = cut ((sums E S W n p 0 0).size + (n - 1)); width = (sum_width (btree n) E W p).width }) (facts_true (balanced_sum (btree n) (lows d true s n p)))
   sum_facts n e o h =

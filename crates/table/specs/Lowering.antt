@@ -38,16 +38,16 @@ is_never (Listed b) = false
 is_never (head.Variants n) = false
 is_never (Payload n) = false
 
-abbrev is_never : Ty → Bool
-is_never never = true
-is_never bool = false
-is_never (uint w) = false
-is_never (either a b) = false
-is_never (option a) = false
-is_never (tuple ts) = false
-is_never (array a n) = false
-is_never (list a e) = false
-is_never (enum vs) = false
+abbrev type_is_never : Ty → Bool
+type_is_never never = true
+type_is_never bool = false
+type_is_never (uint w) = false
+type_is_never (either a b) = false
+type_is_never (option a) = false
+type_is_never (tuple ts) = false
+type_is_never (array a n) = false
+type_is_never (list a e) = false
+type_is_never (enum vs) = false
 
 abbrev no_variant : Tys → Bool
 no_variant ts = false
@@ -55,7 +55,7 @@ no_variant ts = false
 mutual
   unfolding anywhere has_never
 
-  never_anywhere : (t : Ty) → anywhere is_never no_variant t ≡ has_never t
+  never_anywhere : (t : Ty) → anywhere type_is_never no_variant t ≡ has_never t
   never_anywhere never = refl
   never_anywhere bool = refl
   never_anywhere (uint w) = refl
@@ -66,11 +66,11 @@ mutual
   never_anywhere (list a e) = never_anywhere a
   never_anywhere (enum vs) = never_variants vs
 
-  never_among : (ts : Tys) → among is_never no_variant ts ≡ some_never ts
+  never_among : (ts : Tys) → among type_is_never no_variant ts ≡ some_never ts
   never_among nil = refl
   never_among (cons t ts) = ap₂ ◌||◌ (never_anywhere t) (never_among ts)
 
-  never_variants : (vs : Variants) → in_variants is_never no_variant vs ≡ variant_never vs
+  never_variants : (vs : Variants) → in_variants type_is_never no_variant vs ≡ variant_never vs
   never_variants (last ts) = never_among ts
   never_variants (more ts vs) = ap₂ ◌||◌ (never_among ts) (never_variants vs)
 
@@ -79,7 +79,7 @@ unfoldable pub never_at : List ℕ → ℕ → Bool
 never_at s i = is_never (head_at s i)
 
 module _ (s : List ℕ) where
-  type_heads : (d p e : ℕ) (k : Head) → opens false (calls_for k) (λ b n. many (walk d b s) n p) ≡ End e → is_never k ≡ is_never (node k (tree d s) (walk d false s) (treev d s) (walk d true s) p)
+  type_heads : (d p e : ℕ) (k : Head) → opens false (calls_for k) (λ b n. many (walk d b s) n p) ≡ End e → is_never k ≡ type_is_never (node k (tree d s) (walk d false s) (treev d s) (walk d true s) p)
   unfolding opens node
   type_heads d p e Missing q = bad_end q
   type_heads d p e Faulty q = bad_end q
@@ -109,7 +109,7 @@ module _ (s : List ℕ) where
   variant_heads d p e (head.Variants n) q = refl
   variant_heads d p e (Payload n) q = refl
 
-  type_never : (d i e : ℕ) → walk d false s i ≡ End e → never_at s i ≡ is_never (tree d s i)
+  type_never : (d i e : ℕ) → walk d false s i ≡ End e → never_at s i ≡ type_is_never (tree d s i)
   unfolding walk tree rec_at never_at
   type_never zero i e q = bad_end (opened false (rec_at s i) _ e q)
   type_never (suc d) i e q = type_heads d (i + 1) e (head_at s i) q
@@ -121,7 +121,7 @@ module _ (s : List ℕ) where
 
   -- Never stands anywhere exactly when it stands at some record
   pub never_flagged : ((i : ℕ) → head_at s i ≡ head.Variants 0 → ⊥) → (d e : ℕ) → walk d false s 0 ≡ End e → flagged (never_at s) 0 e ≡ has_never (tree d s 0)
-  never_flagged f d e q = ap (flagged (never_at s) 0) (sym (sub-zero e)) ∙ flagged_type is_never no_variant s (never_at s) type_never variant_never_no f d 0 e q ∙ never_anywhere (tree d s 0)
+  never_flagged f d e q = ap (flagged (never_at s) 0) (sym (sub-zero e)) ∙ flagged_type type_is_never no_variant s (never_at s) type_never variant_never_no f d 0 e q ∙ never_anywhere (tree d s 0)
 
 -- ROW 7
 

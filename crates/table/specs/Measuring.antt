@@ -20,7 +20,7 @@ use Rattle.types.specs.declared.TypeAnswer.TheVariants.{Ok}
 use Rattle.types.specs.Record.{by_width, by_bound, head_of, head_at}
 use Rattle.types.specs.Heads.{Fair}
 use Rattle.types.specs.Walks.{walk}
-use Rattle.types.specs.Table.{Ends, read_type}
+use Rattle.types.specs.Table.{Ends, type_answer}
 use Rattle.types.specs.Trees.{tree}
 use Rattle.types.specs.Lows.{low}
 use Rattle.types.specs.Accepted.{ends_whole}
@@ -36,7 +36,7 @@ use Rattle.table.specs.Lowering.{never_at, large_at, is_never, never_flagged, la
 -- what the loop is given: an accepted file of n records, its ends, and columns that are long enough
 pub record Measurable (s E S W : List ℕ) (n : ℕ) : Type 0 where
   pub ends : Ends s E
-  pub accepted : read_type s ≡ Ok n
+  pub accepted : type_answer s ≡ Ok n
   pub sizes : n ≤ length S
   pub widths : n ≤ length W
 

@@ -8,7 +8,7 @@ use Rattle.model.specs.Outcome.{done, refuse, ◌>>=◌, ◌>>◌}
 use Rattle.model.specs.Operations.{lowering}
 use Rattle.types.specs.declared.TypeAnswer.{TypeAnswer}
 use Rattle.types.specs.declared.TypeAnswer.TheVariants.{Ok, Refused}
-use Rattle.types.specs.Table.{Ends, EndsIf, Checked, read_type}
+use Rattle.types.specs.Table.{Ends, EndsIf, Checked, type_answer}
 use Rattle.types.specs.Trees.{tree}
 use Rattle.types.specs.Accepted.{few}
 use Rattle.types.specs.Model.{outcome_of, type_of_is}
@@ -18,7 +18,7 @@ use Rattle.table.specs.Measuring.{Measurable, Measures}
 
 -- the table of a type file that lowers: each record's end, size and width
 pub record Table (s E S W : List ℕ) (n : ℕ) : Type 0 where
-  pub accepted : read_type s ≡ Ok n
+  pub accepted : type_answer s ≡ Ok n
   pub ends : Ends s E
   pub measured : Measured s S W 0
 
@@ -39,7 +39,7 @@ module _ {s E S W : List ℕ} {r : TypeAnswer} where
 
   pub measurable : (n : ℕ) → Checked s r E → r ≡ Ok n → 1024 ≤ length S → 1024 ≤ length W → Measurable s E S W n
   measurable n c e a b =
-      let p : read_type s ≡ Ok n = sym c.answer ∙ e in
+      let p : type_answer s ≡ Ok n = sym c.answer ∙ e in
       let l = few s n p in
       record { ends = subst (λ (x : TypeAnswer). EndsIf x s E) e c.table; accepted = p; sizes = omega arith; widths = omega arith }
 

@@ -1,5 +1,7 @@
 // The columns of a type file's table (01's own, ported from no Rust file), a number for each record: its end, and the facts, the records of its lowered type and the bits of its frame.
 // With it rows 6 and 7 are decided. Sizes and widths are cut at 65,537, one more than a lowered type may have records.
+#![tactic(auto)]
+
 ghost use Rattle.std.specs.Prelude.{◌≡◌, ◌||◌, ◌≤◌, ◌<◌, ◌-◌, ◌+◌, ◌*◌, max, length, get_or, take, drop};
 ghost use Rattle.model.specs.Balanced.{btree};
 ghost use Rattle.array.specs.Lefts.{left_sizes};
@@ -18,21 +20,21 @@ use types::{Head, TypeAnswer, check_type, head_at};
 pub const RECORDS: usize = 1024;
 
 // The records and the bits of what stands at a type record: of a Variant those of its payload type.
-#[derive(Drop)]
+#[derive(Clone, Copy)]
 pub struct Facts {
     pub size: usize,
     pub width: usize,
 }
 
 // The place after some records, and the width of the sum of what stands there.
-#[derive(Drop)]
+#[derive(Clone, Copy)]
 pub struct Sum {
     pub next: usize,
     pub width: usize,
 }
 
 // Does Never stand somewhere, and is something too large?
-#[derive(Drop)]
+#[derive(Clone, Copy)]
 pub struct Flags {
     pub never: bool,
     pub large: bool,

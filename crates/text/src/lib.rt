@@ -1,4 +1,6 @@
 // The lines that programs print, written into a buffer: those of `job` for an accepted type and value, the one of a refusal, or the one of a search.
+#![tactic(auto)]
+
 ghost use Rattle.std.specs.Prelude.{◌≡◌, ◌<◌, ◌≤◌, length};
 ghost use Rattle.reply.specs.Numbers.{refusal_number};
 ghost use Rattle.structural.specs.Writing.{Wrote};
@@ -12,7 +14,7 @@ const NEWLINE: u8 = 10;
 const SPACE: u8 = 32;
 
 // How the contents of a line are shown: a digit a record, or two hexadecimal digits a byte.
-#[derive(Drop)]
+#[derive(Clone, Copy)]
 enum Contents {
     Records,
     Bytes,
@@ -149,12 +151,20 @@ fn write_short(name: &[u8], n: usize, out: &mut [u8]) -> usize
     k + 1
 }
 
+// Writes the line of a refusal over the front of `out`, and answers its length; the bytes behind it stay.
+fn write_refusal(number: usize, out: &mut [u8]) -> usize
+    requires { length (refusal_line number) ≤ length out.old }
+    ensures { Wrote (refusal_line number) out.old out.new result }
+{
+    write_short(b"refused", number, out)
+}
+
 // Writes the line of a refusal, and answers its length.
 pub fn write_refused(x: Refusal, out: &mut [u8]) -> usize
     requires { 12 ≤ length out.old }
     ensures { Wrote (refusal_line (refusal_number x)) out.old out.new result }
 {
-    write_short(b"refused", refusal_number(x) as usize, out)
+    write_refusal(refusal_number(x) as usize, out)
 }
 
 // Writes the line of a search that found frame i, and answers its length.

@@ -1,5 +1,7 @@
 // What a checked value file tells (01, 'Value file'; ported from no Rust file), record by record beside its type: the form of a value, for all that is written from it.
 // The file was checked before, so nothing is tested again.
+#![tactic(auto)]
+
 ghost use Rattle.std.specs.Prelude.{◌≡◌, ◌<◌, ◌/◌, length};
 ghost use Rattle.told.specs.Forms.{choice_at, form_of, Read, hops, Hops, after_at};
 ghost use Rattle.told.specs.Laws.Lists.{block_share};
@@ -9,7 +11,7 @@ use types::Head;
 use value::{number_of, wide};
 
 // What the parts of a product are, and where they stand in the type file.
-#[derive(Drop)]
+#[derive(Clone, Copy)]
 pub enum Parts {
     // the parts of an array or the elements of a list, all of them told by the one type below it
     Copies,
@@ -18,7 +20,7 @@ pub enum Parts {
 }
 
 // What a value is.
-#[derive(Drop)]
+#[derive(Clone, Copy)]
 pub enum Form {
     // so many bits of its own record, from this one on
     Bits(usize, usize),

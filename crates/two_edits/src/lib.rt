@@ -1,1 +1,2 @@
-// Two edits of one frame (02, R-2): definitions and theorems, all in `specs/`; this crate has no code.
+// Two edits of one frame (02, R-2): definitions in `specs/`, theorems in `proofs/`; this crate has no code.
+#![tactic(auto)]

@@ -8,7 +8,7 @@ use Rattle.types.specs.declared.Walk.TheVariants.{End, Bad}
 use Rattle.types.specs.declared.TypeAnswer.{TypeAnswer}
 use Rattle.types.specs.declared.TypeAnswer.TheVariants.{Ok, Refused}
 use Rattle.types.specs.Walks.{walk}
-use Rattle.types.specs.Table.{EndsIf, Checked, pick_answer, whole, read_type}
+use Rattle.types.specs.Table.{EndsIf, Checked, pick_answer, whole, type_answer}
 use Rattle.types.specs.Steps.{Starts, Given}
 
 refused_ok : {A : Type 0} {x : Refusal} {n : ℕ} → Refused x ≡ Ok n → A
@@ -28,8 +28,8 @@ unfolding whole
 whole_ok m n (End e) p = (e, refl)
 whole_ok m n (Bad x) p = refused_ok p
 
-pub accepted : (s : List ℕ) (n : ℕ) → read_type s ≡ Ok n → Starts 32 false s 0
-unfolding read_type
+pub accepted : (s : List ℕ) (n : ℕ) → type_answer s ≡ Ok n → Starts 32 false s 0
+unfolding type_answer
 accepted s n p =
     let a : whole (length s / 4) (walk 32 false s 0) ≡ Ok n =
     not_second (leb (length s / 4) 1024) TypeTooLong n _ (not_second (eqb (length s % 4) 0) TypeLength n _ (not_first (eqb (length s) 0) TypeLength n _ p)) in
@@ -47,8 +47,8 @@ second_true true x n y p = refl
 second_true false x n y p = refused_ok p
 
 -- the walk of an accepted file ends where the file ends
-pub ends_whole : (s : List ℕ) (n : ℕ) → read_type s ≡ Ok n → (walk 32 false s 0 ≡ End n) × (length s ≡ n * 4)
-unfolding read_type whole
+pub ends_whole : (s : List ℕ) (n : ℕ) → type_answer s ≡ Ok n → (walk 32 false s 0 ≡ End n) × (length s ≡ n * 4)
+unfolding type_answer whole
 ends_whole s n p =
     let f = not_first (eqb (length s) 0) TypeLength n _ p in
     let q = not_second (eqb (length s % 4) 0) TypeLength n _ f in
@@ -62,8 +62,8 @@ ends_whole s n p =
     (w ∙ ap End i, omega arith)
 
 -- an accepted file has at most 1,024 records
-pub few : (s : List ℕ) (n : ℕ) → read_type s ≡ Ok n → n ≤ 1024
-unfolding read_type
+pub few : (s : List ℕ) (n : ℕ) → type_answer s ≡ Ok n → n ≤ 1024
+unfolding type_answer
 few s n p =
     let q = not_second (eqb (length s % 4) 0) TypeLength n _ (not_first (eqb (length s) 0) TypeLength n _ p) in
     let m : length s / 4 ≤ 1024 = leb-true _ _ (second_true (leb (length s / 4) 1024) TypeTooLong n _ q) in

@@ -1,4 +1,4 @@
--- The type file of 01 by positions and by the model's reader: what `read_type` answers and `tree` builds is what `type_of` reads.
+-- The type file of 01 by positions and by the model's reader: what `type_answer` answers and `tree` builds is what `type_of` reads.
 -- The reader takes records from the front of a list, the walk stands at a place: what the reader has left after e records is the list dropped by e.
 -- One record is compared by what it says (`Says`), its children by the readers and walks handed in, and the levels are one induction. Assumes nothing.
 use Rattle.reply.specs.declared.Refusal.TheVariants.{BadRecord, TooDeep, NotOneType, TypeLength, TypeTooLong}
@@ -33,7 +33,7 @@ use Rattle.types.specs.declared.TypeAnswer.{TypeAnswer}
 use Rattle.types.specs.declared.TypeAnswer.TheVariants.{Ok, Refused}
 use Rattle.types.specs.Record.{by_width, by_bound, head_of, head_at, calls_for, rec_at}
 use Rattle.types.specs.Walks.{opens, next, many, walk}
-use Rattle.types.specs.Table.{pick_answer, whole, read_type}
+use Rattle.types.specs.Table.{pick_answer, whole, type_answer}
 use Rattle.types.specs.Trees.{end_of, kids, cases, node, payload, tree, treev}
 use Rattle.types.specs.Unique.{kind, count, reach}
 
@@ -290,8 +290,8 @@ row_of_records n m = go (leb (n / 4) 1024) refl
     go false e = let l = leb-false (n / 4) 1024 e in lt-ltb (4 * most_type_records) n (omega arith)
 
 -- rows 1 to 5: the model reads a type file as the walk does
-pub type_of_is : (s : List ℕ) → type_of s ≡ outcome_of (read_type s) (tree 32 s 0)
-unfolding type_of read_type
+pub type_of_is : (s : List ℕ) → type_of s ≡ outcome_of (type_answer s) (tree 32 s 0)
+unfolding type_of type_answer
 type_of_is s = go (eqb (length s) 0) (eqb (length s % 4) 0) refl
   where
     rest : (read_type deepest (rows s) >>= all_read not_one_type) ≡ outcome_of (whole (length s / 4) (walk 32 false s 0)) (tree 32 s 0)
@@ -307,5 +307,5 @@ type_of_is s = go (eqb (length s) 0) (eqb (length s % 4) 0) refl
     go false true e = rw (row_of_records (length s) (eqb-true (length s % 4) 0 e)) (long (leb (length s / 4) 1024))
 
 -- an accepted file says its tree
-pub accepted_tree : (s : List ℕ) (n : ℕ) → read_type s ≡ Ok n → type_of s ≡ done (tree 32 s 0)
+pub accepted_tree : (s : List ℕ) (n : ℕ) → type_answer s ≡ Ok n → type_of s ≡ done (tree 32 s 0)
 accepted_tree s n p = type_of_is s ∙ ap (λ r. outcome_of r (tree 32 s 0)) p

@@ -44,8 +44,8 @@ whole n (End e) = pick_answer (eqb e n) (Ok e) (Refused NotOneType)
 whole n (Bad x) = Refused x
 
 -- rows 1 to 5: how many records a type file has, or the number that refuses it
-unfoldable pub read_type : List ℕ → TypeAnswer
-read_type s =
+unfoldable pub type_answer : List ℕ → TypeAnswer
+type_answer s =
     pick_answer (eqb (length s) 0) (Refused TypeLength)
     (pick_answer (eqb (length s % 4) 0)
     (pick_answer (leb (length s / 4) 1024) (whole (length s / 4) (walk 32 false s 0)) (Refused TypeTooLong))
@@ -61,5 +61,5 @@ EndsIf (Ok n) s E = Ends s E
 EndsIf (Refused x) s E = Unit
 
 pub record Checked (s : List ℕ) (r : TypeAnswer) (E : List ℕ) : Type 0 where
-  pub answer : r ≡ read_type s
+  pub answer : r ≡ type_answer s
   pub table : EndsIf r s E

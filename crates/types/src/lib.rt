@@ -1,5 +1,7 @@
 // Type files, after types/inner.rs and types/resolved.rs: what each record says, and one pass over the file that finds the first row of 1 to 5 that holds
 // and where the subtree of each record ends.
+#![tactic(auto)]
+
 ghost use Rattle.std.specs.Prelude.{◌≡◌, true, false, ◌≤◌, ◌<◌, ◌/◌, length};
 ghost use Rattle.num.specs.Powers.{bound_of, width_of};
 ghost use Rattle.types.specs.Record.{by_width, by_bound, head_of, head_at, calls_for, rec_at};
@@ -11,7 +13,7 @@ use num::{Bound, NonZeroPow2Usize, Pow2Usize, Width};
 use reply::Refusal;
 
 // What a record says.
-#[derive(Drop)]
+#[derive(Clone, Copy)]
 pub enum Head {
     Missing,
     Faulty,
@@ -28,7 +30,7 @@ pub enum Head {
 }
 
 // What a record calls for.
-#[derive(Drop)]
+#[derive(Clone, Copy)]
 pub enum Rec {
     Gone,
     Wrong,
@@ -38,14 +40,14 @@ pub enum Rec {
 }
 
 // Where a subtree ends, or the fault that comes first in it.
-#[derive(Drop)]
+#[derive(Clone, Copy)]
 pub enum Walk {
     End(usize),
     Bad(Refusal),
 }
 
 // How many records a type file has, or the number that refuses it.
-#[derive(Drop)]
+#[derive(Clone, Copy)]
 pub enum TypeAnswer {
     Ok(usize),
     Refused(Refusal),

@@ -17,7 +17,7 @@ use Rattle.model.proofs.Laws.Sizes.{width_block}
 use Rattle.structural.specs.Forms.{Stands}
 use Rattle.structural.specs.Forms as structural
 use Rattle.structural.specs.Writing.{put, Wrote}
-use Rattle.structural.specs.Laws.Writing.{rest, back, wrote_none, wrote_length}
+use Rattle.structural.proofs.Laws.Writing.{rest, back, wrote_none, wrote_length}
 use Rattle.bits.specs.Bits.{Inside}
 use Rattle.told.specs.declared.Parts.{Parts}
 use Rattle.told.specs.declared.Parts.TheVariants.{Copies}

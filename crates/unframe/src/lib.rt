@@ -1,5 +1,7 @@
 // The reader of a frame into a value file (01, 'Frame'; ported from no Rust file): a type and a frame are walked together, and the value's records are written.
 // The frame was accepted before, so nothing is tested again.
+#![tactic(auto)]
+
 ghost use Rattle.std.specs.Prelude.{◌≡◌, false, ◌≤◌};
 ghost use Rattle.model.specs.Balanced.{btree};
 ghost use Rattle.model.specs.Structural.{block_type};
@@ -30,7 +32,7 @@ const RECORD: usize = 36;
 const LEVELS: usize = 32;
 
 // The number of a choice, the type's record of it, and the bit at which it begins.
-#[derive(Drop)]
+#[derive(Clone, Copy)]
 pub struct Choice {
     pub number: usize,
     pub at: usize,
@@ -38,7 +40,7 @@ pub struct Choice {
 }
 
 // How many elements were written, and in how many bytes.
-#[derive(Drop)]
+#[derive(Clone, Copy)]
 struct Numbered {
     number: usize,
     len: usize,

@@ -121,7 +121,7 @@ pub add_integer : (k w n : ℕ) → add k (joints w + 2 * w) ≡ add k (shape_si
 add_integer k w n = ap (add k) (sym (size_tuple (map bit (to_bits w n)) ∙ both))
   where
     both : joints (length (map bit (to_bits w n))) + sizes (map bit (to_bits w n)) ≡ joints w + 2 * w
-    both = rw (lib.ListN.length_map (to_bits w n) bit, sizes_bits (to_bits w n), length_to_bits w n)
+    both = rw (lib.ListN.length-map (to_bits w n) bit, sizes_bits (to_bits w n), length_to_bits w n)
 
 pub add_list : (k e : ℕ) (ss : List SValue) → length ss < 2 ^ suc e → add k (blocks e (length ss) 0 + sizes ss) ≡ add k (shape_size (partition e ss))
 unfolding add

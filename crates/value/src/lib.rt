@@ -1,5 +1,7 @@
 // Value files against a type, after value.rs, whose makers of values refuse what rows 16, 21 and 22 refuse here. Both are walked in lock step: where the value ends and how many records its shape has, or the fault that comes first.
 // Shape lengths are cut at 65,537, one more than a shape may have records.
+#![tactic(auto)]
+
 ghost use Rattle.std.specs.Prelude.{◌≡◌, true, false, ◌≤◌, ◌<◌, ◌+◌, ◌*◌, ◌/◌, ◌^◌, length};
 ghost use Rattle.model.specs.Balanced.{btree};
 ghost use Rattle.array.specs.Lefts.{left_sizes};
@@ -20,14 +22,14 @@ use table::{cut_off, end_at};
 use types::{Head, Rec, head_at, rec_at};
 
 // Where the next value starts and how many records the shape has up to there, or the fault that comes first in the file.
-#[derive(Drop)]
+#[derive(Clone, Copy)]
 pub enum Checked {
     Next(usize, usize),
     Bad(Refusal),
 }
 
 // The choice that a record says.
-#[derive(Drop)]
+#[derive(Clone, Copy)]
 enum Choice {
     Zero,
     One,
@@ -35,14 +37,14 @@ enum Choice {
 }
 
 // The number that a record says.
-#[derive(Drop)]
+#[derive(Clone, Copy)]
 enum Count {
     Of(usize),
     Not,
 }
 
 // What a record of a value file calls for: n values of the type's child j, or n parts, or the payload of Variant i, the last number being how many records of the shape are its own; or the row that refuses it.
-#[derive(Drop)]
+#[derive(Clone, Copy)]
 enum Opens {
     Wrong(Refusal),
     Run(usize, usize, usize),

@@ -25,8 +25,8 @@ use Rattle.structural.specs.Forms.{most_parts, Stands, standing, balanced, liste
 use Rattle.structural.specs.Forms as structural
 use Rattle.structural.specs.declared.Parts as structural_parts
 use Rattle.structural.specs.declared.Parts.TheVariants as parts
-use Rattle.structural.specs.Laws.Forms as structural_laws
-use Rattle.structural.specs.Laws.Trees.{row_stays}
+use Rattle.structural.proofs.Laws.Forms as structural_laws
+use Rattle.structural.proofs.Laws.Trees.{row_stays}
 use Rattle.told.specs.declared.Parts.{Parts}
 use Rattle.told.specs.declared.Parts.TheVariants.{Copies, Types}
 use Rattle.told.specs.Forms.{after, GivenParts}

@@ -19,7 +19,7 @@ use Rattle.model.proofs.Laws.Options.{map_o_map_o}
 use Rattle.model.proofs.Laws.Sizes.{width_array, width_block}
 use Rattle.bits.specs.Bits.{bits_at}
 use Rattle.structural.specs.Forms.{standing, ending}
-use Rattle.structural.specs.Laws.Forms.{stands_end}
+use Rattle.structural.proofs.Laws.Forms.{stands_end}
 use Rattle.told.specs.declared.Parts.{Parts}
 use Rattle.told.specs.declared.Parts.TheVariants.{Copies, Types}
 use Rattle.told.specs.Forms.{after, skip, GivenParts, hops}

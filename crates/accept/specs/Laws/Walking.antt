@@ -21,8 +21,8 @@ use Rattle.model.proofs.Laws.Balanced.{Shares}
 use Rattle.model.proofs.Laws.Sizes.{fold_one, fold_step, width_partition_zero, width_partition_suc}
 use Rattle.types.specs.Heads.{FairBound}
 use Rattle.structural.specs.Forms.{Stands, standing, listed}
-use Rattle.structural.specs.Laws.Forms.{stands_inside}
-use Rattle.structural.specs.Laws.Bounds.{Power, power_of}
+use Rattle.structural.proofs.Laws.Forms.{stands_inside}
+use Rattle.structural.proofs.Laws.Bounds.{Power, power_of}
 use Rattle.bits.specs.Bits.{bits_at, Inside}
 use Rattle.told.specs.declared.Parts.{Parts}
 use Rattle.told.specs.declared.Parts.TheVariants.{Copies, Types}

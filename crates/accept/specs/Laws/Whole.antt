@@ -30,7 +30,7 @@ use Rattle.types.specs.Trees.{tree, type_in}
 use Rattle.types.specs.Lows.{low}
 use Rattle.types.specs.Steps.{Given}
 use Rattle.structural.specs.Forms.{standing}
-use Rattle.structural.specs.Laws.Forms.{stands, standing_is}
+use Rattle.structural.proofs.Laws.Forms.{stands, standing_is}
 use Rattle.bits.specs.Bits.{bits_at, Inside}
 use Rattle.record.specs.Trees.{value_in, part}
 use Rattle.told.specs.Widths.{Wide}

@@ -1,6 +1,6 @@
 -- The line of a refusal fits. Assumes nothing.
 use borrow.Author.Rules.{rules}
-use Rattle.text.specs.Laws.Written.{wrote_counts}
+use Rattle.text.proofs.Laws.Written.{wrote_counts}
 use Rattle.both_orders.specs.Laws.{refusal_fits}
 use Rattle.both_orders.proofs.edit_part.Statement.{statement}
 use Rattle.both_orders.proofs.edit_part.Tie as tie

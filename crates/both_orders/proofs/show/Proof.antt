@@ -1,6 +1,6 @@
 -- Two digits for each byte of a frame fit the line. Assumes nothing.
 use borrow.Author.Rules.{rules}
-use Rattle.text.specs.Laws.Written.{wrote_counts}
+use Rattle.text.proofs.Laws.Written.{wrote_counts}
 use Rattle.both_orders.specs.Laws.{hex_room}
 use Rattle.both_orders.proofs.show.Statement.{statement}
 use Rattle.both_orders.proofs.show.Tie as tie

@@ -35,8 +35,8 @@ use Rattle.types.specs.Steps.{Given, GivenRow, given_levels, given_within, given
 use Rattle.types.specs.Lows.{low}
 use Rattle.structural.specs.Forms.{Stands, is_variant}
 use Rattle.structural.specs.Forms as structural
-use Rattle.structural.specs.Laws.Forms.{stands, standing_is}
-use Rattle.structural.specs.Laws.Bounds.{Power, power_of}
+use Rattle.structural.proofs.Laws.Forms.{stands, standing_is}
+use Rattle.structural.proofs.Laws.Bounds.{Power, power_of}
 use Rattle.bits.specs.Bits.{Inside}
 use Rattle.told.specs.Forms.{hops, Hops}
 use Rattle.told.specs.Widths.{Wide}

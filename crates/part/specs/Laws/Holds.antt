@@ -22,7 +22,7 @@ use Rattle.types.specs.Lows.{low}
 use Rattle.types.specs.Steps.{Given}
 use Rattle.structural.specs.Forms.{Stands}
 use Rattle.structural.specs.Forms as structural
-use Rattle.structural.specs.Laws.Forms.{stands, standing_is}
+use Rattle.structural.proofs.Laws.Forms.{stands, standing_is}
 use Rattle.bits.specs.Bits.{Inside, bits_at}
 use Rattle.told.specs.Widths.{Wide}
 use Rattle.record.specs.Trees.{value_in, part}

@@ -25,7 +25,7 @@ use Rattle.types.specs.Walks.{walk}
 use Rattle.types.specs.Trees.{end_of, kids, tree}
 use Rattle.types.specs.Steps.{Given, GivenRow, given_head, given_end}
 use Rattle.types.specs.Lows.{low}
-use Rattle.structural.specs.Laws.Forms.{stands, standing_is}
+use Rattle.structural.proofs.Laws.Forms.{stands, standing_is}
 use Rattle.told.specs.Forms.{hops}
 use Rattle.told.specs.Widths.{Wide}
 use Rattle.told.specs.Laws.Rows.{first, rest}

@@ -33,8 +33,8 @@ use Rattle.told.specs.Forms.{hops}
 use Rattle.told.specs.Laws.Hops.{hops_add}
 use Rattle.told.specs.Laws.Rows.{first, rest, hopped}
 use Rattle.rebuild.specs.Forms.{form_of, skip, Hopped, GivenPart, GivenParts, reading, standing, part, row, balanced, chosen, block_of, listed}
-use Rattle.structural.specs.Laws.Bounds.{width_small}
-use Rattle.structural.specs.Laws.Forms.{is_kind, stands}
+use Rattle.structural.proofs.Laws.Bounds.{width_small}
+use Rattle.structural.proofs.Laws.Forms.{is_kind, stands}
 
 -- WHAT STANDS AT A RECORD
 

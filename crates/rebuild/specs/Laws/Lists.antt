@@ -12,7 +12,7 @@ use Rattle.num.specs.Laws.{bounded, bound_power, half_bound_two, half_bound_more
 use Rattle.types.specs.Heads.{FairBound}
 use Rattle.rebuild.specs.Kinds.{Readers, lists, blocks}
 use Rattle.rebuild.specs.Forms.{standing, block_of, listed}
-use Rattle.structural.specs.Laws.Bounds.{Power, power_of}
+use Rattle.structural.proofs.Laws.Bounds.{Power, power_of}
 
 module _ {A : Type 0} (W : Readers A) where
   -- with the bound 2 a list is a block of 1

@@ -28,8 +28,8 @@ use Rattle.types.specs.Trees.{kids, node, payload, tree, treev}
 use Rattle.types.specs.Unique.{bad_end}
 use Rattle.types.specs.Steps.{given_levels, given_head, tree_in, treev_in}
 use Rattle.structural.specs.Forms.{is_variant, Stands}
-use Rattle.structural.specs.Laws.Forms.{stands}
-use Rattle.structural.specs.Laws.Bounds.{bound_small}
+use Rattle.structural.proofs.Laws.Forms.{stands}
+use Rattle.structural.proofs.Laws.Bounds.{bound_small}
 use Rattle.told.specs.declared.Parts.{Parts}
 use Rattle.told.specs.declared.Parts.TheVariants.{Types}
 use Rattle.told.specs.Forms.{GivenParts}

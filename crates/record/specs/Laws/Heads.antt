@@ -6,7 +6,7 @@ use Rattle.model.specs.Bytes.{in_bytes, pack, to_bits, of_bits}
 use Rattle.model.specs.ValueFiles.{rec}
 use Rattle.types.specs.declared.Head.{Head}
 use Rattle.structural.specs.Writing.{put, Wrote}
-use Rattle.structural.specs.Laws.Writing.{wrote_none, wrote_set, wrote_as, wrote_length}
+use Rattle.structural.proofs.Laws.Writing.{wrote_none, wrote_set, wrote_as, wrote_length}
 use Rattle.record.specs.Marks.{bytes, zeros, mark_of, Marked}
 
 zero_more : (j : ℕ) → ◌++◌ {A = ℕ} (zeros j) (0 ∷ []) ≡ zeros (suc j)

@@ -20,7 +20,7 @@ use Rattle.model.proofs.Laws.Valid.{length_as_tuple, length_map_m}
 use Rattle.types.specs.Walks.{walk}
 use Rattle.types.specs.Trees.{end_of, kids, tree}
 use Rattle.types.specs.Steps.{Given, GivenRow, given_end, size_kids}
-use Rattle.structural.specs.Laws.Forms.{is_kind, ending_is}
+use Rattle.structural.proofs.Laws.Forms.{is_kind, ending_is}
 use Rattle.told.specs.declared.Parts.TheVariants.{Copies, Types}
 use Rattle.told.specs.Forms.{after}
 use Rattle.told.specs.Laws.Rows.{first, rest}

@@ -23,7 +23,7 @@ use Rattle.types.specs.Heads.{FairBound}
 use Rattle.types.specs.Walks.{walk}
 use Rattle.types.specs.Trees.{end_of, cases, tree, treev}
 use Rattle.types.specs.Steps.{GivenRow, given_end, count_cases}
-use Rattle.structural.specs.Laws.Bounds.{power_of}
+use Rattle.structural.proofs.Laws.Bounds.{power_of}
 use Rattle.told.specs.declared.Parts.TheVariants.{Copies}
 use Rattle.told.specs.Forms.{hops}
 use Rattle.told.specs.Laws.Rows.{first, rest}

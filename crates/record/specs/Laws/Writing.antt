@@ -9,7 +9,7 @@ use Rattle.model.specs.ValueFiles.{Rec, rec, value_bytes}
 use Rattle.model.proofs.Laws.Bytes.{length_in_bytes}
 use Rattle.model.proofs.Laws.ValueFiles.{length_value_bytes}
 use Rattle.structural.specs.Writing.{put, Wrote}
-use Rattle.structural.specs.Laws.Writing.{rest, back, wrote_length, wrote_room, wrote_lent, wrote_as}
+use Rattle.structural.proofs.Laws.Writing.{rest, back, wrote_length, wrote_room, wrote_lent, wrote_as}
 use Rattle.record.specs.Marks.{bytes, written}
 
 -- TWO PIECES

@@ -19,7 +19,7 @@ use Rattle.model.specs.Reconstruct.{as_tuple, as_block, combine}
 use Rattle.model.proofs.Laws.Options.{bind_o_some, map_o_some}
 use Rattle.model.proofs.Laws.Valid.{length_as_tuple}
 use Rattle.types.specs.Heads.{FairBound}
-use Rattle.structural.specs.Laws.Bounds.{Power, power_of}
+use Rattle.structural.proofs.Laws.Bounds.{Power, power_of}
 use Rattle.told.specs.declared.Parts.TheVariants.{Copies}
 use Rattle.told.specs.Laws.Rows.{skip_copies}
 use Rattle.record.specs.Trees.{row, product, numbered, blocked, elements}

@@ -16,7 +16,7 @@ use Rattle.types.specs.Trees.{tree}
 use Rattle.types.specs.Steps.{Given}
 use Rattle.types.specs.Lows.{low}
 use Rattle.structural.specs.Forms as structural
-use Rattle.structural.specs.Laws.Forms.{stands, standing_is}
+use Rattle.structural.proofs.Laws.Forms.{stands, standing_is}
 use Rattle.bits.specs.Bits.{Inside, bits_at, Wrote}
 use Rattle.value.specs.declared.Checked.{Checked}
 use Rattle.value.specs.declared.Checked.TheVariants.{Next, Bad}
@@ -25,7 +25,7 @@ use Rattle.told.specs.Forms as told
 use Rattle.told.specs.Laws.Whole.{whole_told}
 use Rattle.told.specs.Widths.{Wide}
 use Rattle.frame.specs.Forms.{frame_at, Fitted, Framed}
-use Rattle.frame.specs.Laws.Told.{shape_fitted, shape_framed}
+use Rattle.frame.proofs.Laws.Told.{shape_fitted, shape_framed}
 use Rattle.delivery.specs.Values.{value_refused, value_read, value_valid}
 use Rattle.search.specs.declared.Sought.{Sought}
 use Rattle.search.specs.declared.Sought.TheVariants.{Of}

@@ -10,7 +10,7 @@ use Rattle.model.specs.Structural.{shape_records}
 use Rattle.model.specs.Values.{bit}
 use Rattle.model.proofs.Laws.Balanced.{split_bounds}
 use Rattle.structural.specs.Writing.{Wrote}
-use Rattle.structural.specs.Laws.Writing.{wrote_none, wrote_set, wrote_as, Fork}
+use Rattle.structural.proofs.Laws.Writing.{wrote_none, wrote_set, wrote_as, Fork}
 use Rattle.told.specs.Forms.{bits_told}
 use Rattle.told.specs.Laws.Lists.{record_bit, bits_one, bits_step}
 use Rattle.shape.specs.Forms.{tag_of, BitsThere, Room}

@@ -4,7 +4,7 @@ use Rattle.std.proofs.Common.{sym, ap, ◌∙◌, arith}
 use Rattle.std.proofs.Math.Option.{some, some-injective}
 use Rattle.model.specs.Structural.{SValue, unit, left, right, pair, shape_records}
 use Rattle.structural.specs.Writing.{Wrote}
-use Rattle.structural.specs.Laws.Writing.{rest, back, wrote_none, wrote_set, wrote_length, wrote_room, wrote_lent, wrote_as, Fork, fork_start, left_room, left_small, left_fits, right_room, fork_done, fork_small}
+use Rattle.structural.proofs.Laws.Writing.{rest, back, wrote_none, wrote_set, wrote_length, wrote_room, wrote_lent, wrote_as, Fork, fork_start, left_room, left_small, left_fits, right_room, fork_done, fork_small}
 use Rattle.told.specs.Forms.{Told}
 use Rattle.told.specs.Laws.Trees.{joined, Joined, joined_is}
 use Rattle.told.specs.Laws.Lists.{tagged, tagged_is}

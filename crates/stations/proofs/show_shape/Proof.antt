@@ -7,8 +7,8 @@ use borrow.Author.Rules.{rules}
 use lib.ListN.{length, take}
 use Rattle.io.specs.Counts.{IsPrefixLen}
 use Rattle.text.specs.Lines.{in_digits}
-use Rattle.text.specs.Laws.Sizes.{digits_length}
-use Rattle.text.specs.Laws.Written.{wrote_counts}
+use Rattle.text.proofs.Laws.Sizes.{digits_length}
+use Rattle.text.proofs.Laws.Written.{wrote_counts}
 use Rattle.stations.proofs.show_shape.Statement.{statement}
 use Rattle.stations.proofs.show_shape.Tie as tie
 

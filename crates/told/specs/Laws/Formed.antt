@@ -25,8 +25,8 @@ use Rattle.types.specs.Walks.{walk}
 use Rattle.types.specs.Trees.{end_of, kids, cases, node, payload, tree, treev}
 use Rattle.types.specs.Steps.{Given, GivenRow, given_levels, given_head, given_end, tree_in, treev_in, size_kids, count_cases}
 use Rattle.structural.specs.Forms.{is_variant, Stands}
-use Rattle.structural.specs.Laws.Forms.{stands}
-use Rattle.structural.specs.Laws.Bounds.{power_of}
+use Rattle.structural.proofs.Laws.Forms.{stands}
+use Rattle.structural.proofs.Laws.Bounds.{power_of}
 use Rattle.value.specs.Record.{number_at}
 use Rattle.value.specs.Arms.{width_small}
 use Rattle.told.specs.declared.Parts.{Parts}

@@ -27,7 +27,7 @@ use Rattle.model.proofs.Laws.Balanced.{split_bounds}
 use Rattle.model.proofs.Laws.Records.{drop_take}
 use Rattle.model.proofs.Laws.Sizes.{fold_one, fold_step, enum_one, enum_step}
 use Rattle.types.specs.Heads.{FairBound}
-use Rattle.structural.specs.Laws.Bounds.{Power, power_of}
+use Rattle.structural.proofs.Laws.Bounds.{Power, power_of}
 use Rattle.told.specs.declared.Parts.TheVariants.{Copies}
 use Rattle.told.specs.Forms.{Told, standing, record_bits, row, bits_told, balanced, chosen, listed}
 use Rattle.told.specs.Laws.Rows.{skip_copies}

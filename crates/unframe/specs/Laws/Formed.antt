@@ -22,7 +22,7 @@ use Rattle.types.specs.Heads.{Fair, FairBound}
 use Rattle.types.specs.Steps.{given_inside}
 use Rattle.structural.specs.Forms.{Stands}
 use Rattle.structural.specs.Forms as structural
-use Rattle.structural.specs.Laws.Forms as lowered
+use Rattle.structural.proofs.Laws.Forms as lowered
 use Rattle.bits.specs.Bits.{bits_at}
 use Rattle.told.specs.declared.Parts.{Parts}
 use Rattle.told.specs.declared.Parts.TheVariants.{Types}

@@ -17,7 +17,7 @@ use Rattle.model.proofs.Laws.Options.{bind_o_some, map_o_some}
 use Rattle.model.proofs.Laws.Sizes.{width_block, width_partition_zero, width_partition_suc}
 use Rattle.types.specs.Heads.{FairBound}
 use Rattle.structural.specs.Forms as structural
-use Rattle.structural.specs.Laws.Bounds.{Power, power_of}
+use Rattle.structural.proofs.Laws.Bounds.{Power, power_of}
 use Rattle.told.specs.declared.Parts.{Parts}
 use Rattle.told.specs.declared.Parts.TheVariants.{Copies}
 use Rattle.record.specs.Trees.{numbered}

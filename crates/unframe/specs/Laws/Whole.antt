@@ -19,7 +19,7 @@ use Rattle.types.specs.Trees.{tree}
 use Rattle.types.specs.Steps.{Given}
 use Rattle.types.specs.Lows.{low}
 use Rattle.structural.specs.Forms as structural
-use Rattle.structural.specs.Laws.Forms.{stands, standing_is}
+use Rattle.structural.proofs.Laws.Forms.{stands, standing_is}
 use Rattle.structural.specs.Writing.{Wrote}
 use Rattle.bits.specs.Bits.{Inside}
 use Rattle.record.specs.Marks.{written}

@@ -1,0 +1,15 @@
+-- Where the entry gives a shape, it stands in the buffer; where it refuses, the buffer is as it was, with room for the line.
+use Rattle.cleaner.specs.Laws.{made_shape, shape_counts, made_line, line_counts}
+use Rattle.cleaner.proofs.make.Goals as goal
+
+pub returns-in-Done-clause-out_after : goal.returns-in-Done-clause-out_after
+returns-in-Done-clause-out_after c = made_shape _ _ _ _ _ c.requires c.clean_shape.ensures _ c.in-Done.is
+
+pub returns-in-Done-clause-prefix_len : goal.returns-in-Done-clause-prefix_len
+returns-in-Done-clause-prefix_len c = shape_counts _ _ _ _ _ c.requires c.clean_shape.ensures _ c.in-Done.is
+
+pub returns-in-Refused-clause-out_after : goal.returns-in-Refused-clause-out_after
+returns-in-Refused-clause-out_after c = made_line _ _ _ _ _ c.requires c.clean_shape.ensures _ c.in-Refused.is _ _ c.write_refused.ensures
+
+pub returns-in-Refused-clause-prefix_len : goal.returns-in-Refused-clause-prefix_len
+returns-in-Refused-clause-prefix_len c = line_counts _ _ _ _ _ c.requires c.clean_shape.ensures _ c.in-Refused.is _ _ c.write_refused.ensures

@@ -1,0 +1,172 @@
+// The entries of `niegluk` as C functions, with the same promises: the number is the result, and the other numbers of the reply go behind the last pointers, one each.
+#![tactic(auto)]
+
+ghost use Rattle.model.specs.Edits.{Edited};
+ghost use Rattle.model.specs.Frames.{after};
+ghost use Rattle.model.specs.Calls.{Lower, Room, WriteShape, ShapeRecords, Reconstruct, CleanShape, WriteFrame, ReadFrame, PartRead, PartEdit, SearchTold};
+
+use reply::{found_flag, found_index, found_number, length_of, number, room_number, room_of};
+
+// `lower` for C: the number, 0 where the type is lowered; `length` is 0 where it is not.
+#[unsafe(no_mangle)]
+pub extern "C" fn niegluk_lower(ty: &[u8], out: &mut [u8], length: &mut usize) -> u32
+    ensures { Lower ty.now out.old result length.new out.new }
+{
+    let lowered = niegluk::lower(ty, out);
+    *length = length_of(lowered);
+    number(lowered)
+}
+
+// `room` for C: the number, 0 where the type is accepted; the three others are 0 where it is not.
+#[unsafe(no_mangle)]
+pub extern "C" fn niegluk_room(
+    ty: &[u8],
+    lowered: &mut usize,
+    bits: &mut usize,
+    shape: &mut usize,
+) -> u32
+    ensures { Room ty.now result lowered.new bits.new shape.new }
+{
+    let told = niegluk::room(ty);
+    let room = room_of(told);
+    *lowered = room.lowered;
+    *bits = room.bits;
+    *shape = room.shape;
+    room_number(told)
+}
+
+// `write_shape` for C: the number, 0 where the shape is written; `length` is 0 where it is not.
+#[unsafe(no_mangle)]
+pub extern "C" fn niegluk_write_shape(
+    ty: &[u8],
+    value: &[u8],
+    out: &mut [u8],
+    length: &mut usize,
+) -> u32
+    ensures { WriteShape ty.now value.now out.old result length.new out.new }
+{
+    let shaped = niegluk::write_shape(ty, value, out);
+    *length = length_of(shaped);
+    number(shaped)
+}
+
+// `shape_records` for C: the number, 0 where the value is accepted; `records` is 0 where it is not.
+#[unsafe(no_mangle)]
+pub extern "C" fn niegluk_shape_records(ty: &[u8], value: &[u8], records: &mut usize) -> u32
+    ensures { ShapeRecords ty.now value.now result records.new }
+{
+    let told = niegluk::shape_records(ty, value);
+    *records = length_of(told);
+    number(told)
+}
+
+// `reconstruct` for C: the number, 0 where the value file is written; `length` is 0 where it is not.
+#[unsafe(no_mangle)]
+pub extern "C" fn niegluk_reconstruct(
+    ty: &[u8],
+    shape: &[u8],
+    out: &mut [u8],
+    length: &mut usize,
+) -> u32
+    ensures { Reconstruct ty.now shape.now out.old result length.new out.new }
+{
+    let restored = niegluk::reconstruct(ty, shape, out);
+    *length = length_of(restored);
+    number(restored)
+}
+
+// `clean_shape` for C: the number, 0 where the cleaned shape is written; `length` is 0 where it is not.
+#[unsafe(no_mangle)]
+pub extern "C" fn niegluk_clean_shape(
+    ty: &[u8],
+    shape: &[u8],
+    out: &mut [u8],
+    length: &mut usize,
+) -> u32
+    ensures { CleanShape ty.now shape.now out.old result length.new out.new }
+{
+    let cleaned = niegluk::clean_shape(ty, shape, out);
+    *length = length_of(cleaned);
+    number(cleaned)
+}
+
+// `write_frame` for C: the number, 0 where the frame is written; `length` is 0 where it is not.
+#[unsafe(no_mangle)]
+pub extern "C" fn niegluk_write_frame(
+    ty: &[u8],
+    value: &[u8],
+    out: &mut [u8],
+    length: &mut usize,
+) -> u32
+    ensures { WriteFrame ty.now value.now out.old result length.new out.new }
+{
+    let framed = niegluk::write_frame(ty, value, out);
+    *length = length_of(framed);
+    number(framed)
+}
+
+// `read_frame` for C: the number, 0 where the value file is written; `length` is 0 where it is not.
+#[unsafe(no_mangle)]
+pub extern "C" fn niegluk_read_frame(
+    ty: &[u8],
+    frame: &[u8],
+    out: &mut [u8],
+    length: &mut usize,
+) -> u32
+    ensures { ReadFrame ty.now frame.now out.old result length.new out.new }
+{
+    let unframed = niegluk::read_frame(ty, frame, out);
+    *length = length_of(unframed);
+    number(unframed)
+}
+
+// `part_read` for C: the number, 0 where the part's value file is written; `length` is 0 where it is not.
+#[unsafe(no_mangle)]
+pub extern "C" fn niegluk_part_read(
+    ty: &[u8],
+    frame: &[u8],
+    path: &[u8],
+    out: &mut [u8],
+    length: &mut usize,
+) -> u32
+    ensures { PartRead ty.now frame.now path.now out.old result length.new out.new }
+{
+    let read = niegluk::part_read(ty, frame, path, out);
+    *length = length_of(read);
+    number(read)
+}
+
+// `part_edit` for C: the number, 0 where the part is replaced; `length` is the frame's then, and 0 where it is not.
+#[unsafe(no_mangle)]
+pub extern "C" fn niegluk_part_edit(
+    ty: &[u8],
+    frame: &mut [u8],
+    path: &[u8],
+    value: &[u8],
+    length: &mut usize,
+) -> u32
+    ensures part_edit { PartEdit ty.now frame.old path.now value.now result length.new frame.new }
+    ensures edited { Edited after ty.now frame.old path.now value.now result length.new frame.new }
+{
+    let edited = niegluk::part_edit(ty, frame, path, value);
+    *length = length_of(edited);
+    number(edited)
+}
+
+// `search` for C: the number, 0 where the day file was searched; `found` is 1 where a frame matches, with its index in `index`, and else 0, as `index` is then.
+#[unsafe(no_mangle)]
+pub extern "C" fn niegluk_search(
+    ty: &[u8],
+    day: &[u8],
+    path: &[u8],
+    value: &[u8],
+    found: &mut u32,
+    index: &mut usize,
+) -> u32
+    ensures { SearchTold ty.now day.now path.now value.now result found.new index.new }
+{
+    let told = niegluk::search(ty, day, path, value);
+    *found = found_flag(told);
+    *index = found_index(told);
+    found_number(told)
+}

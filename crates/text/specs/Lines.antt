@@ -80,7 +80,7 @@ short_line name n = heading name n ++ (newline ∷ [])
 
 -- the one line of a refusal
 unfoldable pub refusal_line : ℕ → List ℕ
-refusal_line n = short_line refused_name n
+refusal_line n = heading refused_name n ++ (newline ∷ [])
 
 -- the one line of a search that found frame i
 unfoldable pub found_line : ℕ → List ℕ

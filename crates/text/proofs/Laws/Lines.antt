@@ -59,7 +59,7 @@ unfolding short_line
 short_end name n out h = record { same = refl; room = h }
 
 pub refusal_end : (n : ℕ) (out : List ℕ) → length (refusal_line n) ≤ length out → Joined (heading refused_name n) (newline ∷ []) (refusal_line n) out
-unfolding refusal_line short_line
+unfolding refusal_line
 refusal_end n out h = record { same = refl; room = h }
 
 -- CONTENTS

@@ -73,7 +73,7 @@ short_short name k n h = omega (arith, length-append (heading name n) (newline �
 
 -- the line of a refusal whose number has at most k + 1 digits
 pub refusal_short : (k n : ℕ) → n < 10 ^ suc k → length (refusal_line n) ≤ 10 + k
-unfolding refusal_line
+unfolding refusal_line short_line
 refusal_short k n h = omega (arith, short_short refused_name k n h)
 
 -- the line of an index: a number that fits 64 bits has at most 20 digits

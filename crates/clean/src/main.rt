@@ -2,7 +2,8 @@
 #![tactic(auto)]
 
 use cleaner::clean_here;
+use std::io;
 
-fn main() {
-    clean_here();
+fn main(rt: HostRuntime) -> io::Result<()> {
+    clean_here(&rt)
 }

@@ -4,260 +4,295 @@
 
 use files::{read_file, read_records};
 use finder::{find_files, make};
-use libc::STDOUT_FILENO;
+use std::io;
+use std::rt::Files;
 
 // The bytes of a day file that are read at a time.
 const FEW: usize = 8;
 
-fn show(name: &[u8], type_name: &[u8], day_name: &[u8], path_name: &[u8], value_name: &[u8]) {
+fn show(
+    rt: &(impl Files + Print + Eprint),
+    name: &str,
+    type_name: &str,
+    day_name: &str,
+    path_name: &str,
+    value_name: &str,
+) -> io::Result<()> {
     let mut ty = [0u8; 65540];
     let mut day = [0u8; 65540];
     let mut path = [0u8; 65540];
     let mut value = [0u8; 65540];
     let mut line = [0u8; 27];
-    io::write_all(STDOUT_FILENO, name);
-    find_files(type_name, day_name, path_name, value_name, FEW);
-    let n = read_records(type_name, &mut ty);
-    let m = read_file(day_name, &mut day);
-    let p = read_records(path_name, &mut path);
-    let v = read_file(value_name, &mut value);
+    println!(rt; "{name}")?;
+    find_files(rt, type_name, day_name, path_name, value_name, FEW)?;
+    let n = read_records(rt, type_name, &mut ty);
+    let m = read_file(rt, day_name, &mut day);
+    let p = read_records(rt, path_name, &mut path);
+    let v = read_file(rt, value_name, &mut value);
     let k = make(&ty[..n], &day[..m], &path[..p], &value[..v], &mut line);
-    io::write_all(STDOUT_FILENO, &line[..k]);
+    rt.write_all(&line[..k])
 }
 
 // A frame in the first piece, in the last, and at the end of a whole one.
-fn finds() {
+fn finds(rt: &(impl Files + Print + Eprint)) -> io::Result<()> {
     show(
-        b"first\n",
-        b"first/day.typ",
-        b"first/day.frames",
-        b"first/day.path",
-        b"first/day.val",
-    );
+        rt,
+        "first",
+        "first/day.typ",
+        "first/day.frames",
+        "first/day.path",
+        "first/day.val",
+    )?;
     show(
-        b"second\n",
-        b"second/day.typ",
-        b"second/day.frames",
-        b"second/day.path",
-        b"second/day.val",
-    );
+        rt,
+        "second",
+        "second/day.typ",
+        "second/day.frames",
+        "second/day.path",
+        "second/day.val",
+    )?;
     show(
-        b"last-piece\n",
-        b"last-piece/day.typ",
-        b"last-piece/day.frames",
-        b"last-piece/day.path",
-        b"last-piece/day.val",
-    );
+        rt,
+        "last-piece",
+        "last-piece/day.typ",
+        "last-piece/day.frames",
+        "last-piece/day.path",
+        "last-piece/day.val",
+    )?;
     show(
-        b"whole-pieces\n",
-        b"whole-pieces/day.typ",
-        b"whole-pieces/day.frames",
-        b"whole-pieces/day.path",
-        b"whole-pieces/day.val",
-    );
+        rt,
+        "whole-pieces",
+        "whole-pieces/day.typ",
+        "whole-pieces/day.frames",
+        "whole-pieces/day.path",
+        "whole-pieces/day.val",
+    )
 }
 
 // Two frames that match, a match of the whole frame, and frames that are longer than a piece.
-fn more_finds() {
+fn more_finds(rt: &(impl Files + Print + Eprint)) -> io::Result<()> {
     show(
-        b"two\n",
-        b"two/day.typ",
-        b"two/day.frames",
-        b"two/day.path",
-        b"two/day.val",
-    );
+        rt,
+        "two",
+        "two/day.typ",
+        "two/day.frames",
+        "two/day.path",
+        "two/day.val",
+    )?;
     show(
-        b"whole-frame\n",
-        b"whole-frame/day.typ",
-        b"whole-frame/day.frames",
-        b"whole-frame/day.path",
-        b"whole-frame/day.val",
-    );
+        rt,
+        "whole-frame",
+        "whole-frame/day.typ",
+        "whole-frame/day.frames",
+        "whole-frame/day.path",
+        "whole-frame/day.val",
+    )?;
     show(
-        b"long-frames\n",
-        b"long-frames/day.typ",
-        b"long-frames/day.frames",
-        b"long-frames/day.path",
-        b"long-frames/day.val",
-    );
+        rt,
+        "long-frames",
+        "long-frames/day.typ",
+        "long-frames/day.frames",
+        "long-frames/day.path",
+        "long-frames/day.val",
+    )
 }
 
 // A damaged frame before the one that matches, in its piece and in the one before; only damaged ones.
-fn damaged() {
+fn damaged(rt: &(impl Files + Print + Eprint)) -> io::Result<()> {
     show(
-        b"damaged\n",
-        b"damaged/day.typ",
-        b"damaged/day.frames",
-        b"damaged/day.path",
-        b"damaged/day.val",
-    );
+        rt,
+        "damaged",
+        "damaged/day.typ",
+        "damaged/day.frames",
+        "damaged/day.path",
+        "damaged/day.val",
+    )?;
     show(
-        b"damaged-piece\n",
-        b"damaged-piece/day.typ",
-        b"damaged-piece/day.frames",
-        b"damaged-piece/day.path",
-        b"damaged-piece/day.val",
-    );
+        rt,
+        "damaged-piece",
+        "damaged-piece/day.typ",
+        "damaged-piece/day.frames",
+        "damaged-piece/day.path",
+        "damaged-piece/day.val",
+    )?;
     show(
-        b"only-damaged\n",
-        b"only-damaged/day.typ",
-        b"only-damaged/day.frames",
-        b"only-damaged/day.path",
-        b"only-damaged/day.val",
-    );
+        rt,
+        "only-damaged",
+        "only-damaged/day.typ",
+        "only-damaged/day.frames",
+        "only-damaged/day.path",
+        "only-damaged/day.val",
+    )
 }
 
 // No frame that matches, a path that leads nowhere, a value of another type, and no frame at all.
-fn finds_none() {
+fn finds_none(rt: &(impl Files + Print + Eprint)) -> io::Result<()> {
     show(
-        b"none\n",
-        b"none/day.typ",
-        b"none/day.frames",
-        b"none/day.path",
-        b"none/day.val",
-    );
+        rt,
+        "none",
+        "none/day.typ",
+        "none/day.frames",
+        "none/day.path",
+        "none/day.val",
+    )?;
     show(
-        b"nowhere\n",
-        b"nowhere/day.typ",
-        b"nowhere/day.frames",
-        b"nowhere/day.path",
-        b"nowhere/day.val",
-    );
+        rt,
+        "nowhere",
+        "nowhere/day.typ",
+        "nowhere/day.frames",
+        "nowhere/day.path",
+        "nowhere/day.val",
+    )?;
     show(
-        b"other-value\n",
-        b"other-value/day.typ",
-        b"other-value/day.frames",
-        b"other-value/day.path",
-        b"other-value/day.val",
-    );
+        rt,
+        "other-value",
+        "other-value/day.typ",
+        "other-value/day.frames",
+        "other-value/day.path",
+        "other-value/day.val",
+    )?;
     show(
-        b"no-frame\n",
-        b"no-frame/day.typ",
-        b"no-frame/day.frames",
-        b"no-frame/day.path",
-        b"no-frame/day.val",
-    );
+        rt,
+        "no-frame",
+        "no-frame/day.typ",
+        "no-frame/day.frames",
+        "no-frame/day.path",
+        "no-frame/day.val",
+    )
 }
 
 // Types that are refused, and one whose frames have no bytes.
-fn refuses_types() {
+fn refuses_types(rt: &(impl Files + Print + Eprint)) -> io::Result<()> {
     show(
-        b"bad-type\n",
-        b"bad-type/day.typ",
-        b"bad-type/day.frames",
-        b"bad-type/day.path",
-        b"bad-type/day.val",
-    );
+        rt,
+        "bad-type",
+        "bad-type/day.typ",
+        "bad-type/day.frames",
+        "bad-type/day.path",
+        "bad-type/day.val",
+    )?;
     show(
-        b"never\n",
-        b"never/day.typ",
-        b"never/day.frames",
-        b"never/day.path",
-        b"never/day.val",
-    );
+        rt,
+        "never",
+        "never/day.typ",
+        "never/day.frames",
+        "never/day.path",
+        "never/day.val",
+    )?;
     show(
-        b"no-bytes\n",
-        b"no-bytes/day.typ",
-        b"no-bytes/day.frames",
-        b"no-bytes/day.path",
-        b"no-bytes/day.val",
-    );
+        rt,
+        "no-bytes",
+        "no-bytes/day.typ",
+        "no-bytes/day.frames",
+        "no-bytes/day.path",
+        "no-bytes/day.val",
+    )
 }
 
 // A day file and a path that are cut, each behind frames that match; the day file's length goes first.
-fn refuses_lengths() {
+fn refuses_lengths(rt: &(impl Files + Print + Eprint)) -> io::Result<()> {
     show(
-        b"day-length\n",
-        b"day-length/day.typ",
-        b"day-length/day.frames",
-        b"day-length/day.path",
-        b"day-length/day.val",
-    );
+        rt,
+        "day-length",
+        "day-length/day.typ",
+        "day-length/day.frames",
+        "day-length/day.path",
+        "day-length/day.val",
+    )?;
     show(
-        b"odd-both\n",
-        b"odd-both/day.typ",
-        b"odd-both/day.frames",
-        b"odd-both/day.path",
-        b"odd-both/day.val",
-    );
+        rt,
+        "odd-both",
+        "odd-both/day.typ",
+        "odd-both/day.frames",
+        "odd-both/day.path",
+        "odd-both/day.val",
+    )?;
     show(
-        b"odd-path\n",
-        b"odd-path/day.typ",
-        b"odd-path/day.frames",
-        b"odd-path/day.path",
-        b"odd-path/day.val",
-    );
+        rt,
+        "odd-path",
+        "odd-path/day.typ",
+        "odd-path/day.frames",
+        "odd-path/day.path",
+        "odd-path/day.val",
+    )
 }
 
 // A path that is longer than its buffer, of an even and of an odd length.
-fn long_paths() {
+fn long_paths(rt: &(impl Files + Print + Eprint)) -> io::Result<()> {
     show(
-        b"long-path\n",
-        b"long-path/day.typ",
-        b"long-path/day.frames",
-        b"long-path/day.path",
-        b"long-path/day.val",
-    );
+        rt,
+        "long-path",
+        "long-path/day.typ",
+        "long-path/day.frames",
+        "long-path/day.path",
+        "long-path/day.val",
+    )?;
     show(
-        b"longer-path\n",
-        b"longer-path/day.typ",
-        b"longer-path/day.frames",
-        b"longer-path/day.path",
-        b"longer-path/day.val",
-    );
+        rt,
+        "longer-path",
+        "longer-path/day.typ",
+        "longer-path/day.frames",
+        "longer-path/day.path",
+        "longer-path/day.val",
+    )
 }
 
 // A type file that is missing counts as empty. Of any other `find` says it to standard error and prints no line, so that `make`'s stands alone: to it such a file is empty, and an empty path leads to the whole frame.
-fn no_file() {
+fn no_file(rt: &(impl Files + Print + Eprint)) -> io::Result<()> {
     show(
-        b"no-type\n",
-        b"no-type/day.typ",
-        b"no-type/day.frames",
-        b"no-type/day.path",
-        b"no-type/day.val",
-    );
+        rt,
+        "no-type",
+        "no-type/day.typ",
+        "no-type/day.frames",
+        "no-type/day.path",
+        "no-type/day.val",
+    )?;
     show(
-        b"no-day\n",
-        b"no-day/day.typ",
-        b"no-day/day.frames",
-        b"no-day/day.path",
-        b"no-day/day.val",
-    );
+        rt,
+        "no-day",
+        "no-day/day.typ",
+        "no-day/day.frames",
+        "no-day/day.path",
+        "no-day/day.val",
+    )?;
     show(
-        b"no-path\n",
-        b"no-path/day.typ",
-        b"no-path/day.frames",
-        b"no-path/day.path",
-        b"no-path/day.val",
-    );
+        rt,
+        "no-path",
+        "no-path/day.typ",
+        "no-path/day.frames",
+        "no-path/day.path",
+        "no-path/day.val",
+    )?;
     show(
-        b"no-value\n",
-        b"no-value/day.typ",
-        b"no-value/day.frames",
-        b"no-value/day.path",
-        b"no-value/day.val",
-    );
+        rt,
+        "no-value",
+        "no-value/day.typ",
+        "no-value/day.frames",
+        "no-value/day.path",
+        "no-value/day.val",
+    )
 }
 
 // All of them are.
-fn no_files() {
+fn no_files(rt: &(impl Files + Print + Eprint)) -> io::Result<()> {
     show(
-        b"nothing\n",
-        b"nothing/day.typ",
-        b"nothing/day.frames",
-        b"nothing/day.path",
-        b"nothing/day.val",
-    );
+        rt,
+        "nothing",
+        "nothing/day.typ",
+        "nothing/day.frames",
+        "nothing/day.path",
+        "nothing/day.val",
+    )
 }
 
-fn main() {
-    finds();
-    more_finds();
-    damaged();
-    finds_none();
-    refuses_types();
-    refuses_lengths();
-    long_paths();
-    no_file();
-    no_files();
+fn main(rt: HostRuntime) -> io::Result<()> {
+    finds(&rt)?;
+    more_finds(&rt)?;
+    damaged(&rt)?;
+    finds_none(&rt)?;
+    refuses_types(&rt)?;
+    refuses_lengths(&rt)?;
+    long_paths(&rt)?;
+    no_file(&rt)?;
+    no_files(&rt)
 }

@@ -2,7 +2,8 @@
 #![tactic(auto)]
 
 use finder::find_here;
+use std::io;
 
-fn main() {
-    find_here();
+fn main(rt: HostRuntime) -> io::Result<()> {
+    find_here(&rt)
 }

@@ -3,28 +3,29 @@
 #![tactic(auto)]
 
 use files::read_file;
-use libc::STDOUT_FILENO;
 use report::report;
+use std::io;
+use std::rt::Files;
 
-fn show(type_path: &[u8], value_path: &[u8]) {
+fn show(rt: &(impl Files + Print), type_path: &str, value_path: &str) -> io::Result<()> {
     let mut ty = [0u8; 65537];
     let mut val = [0u8; 65537];
     let mut out = [0u8; 140000];
-    let n = read_file(type_path, &mut ty);
-    let m = read_file(value_path, &mut val);
+    let n = read_file(rt, type_path, &mut ty);
+    let m = read_file(rt, value_path, &mut val);
     let k = report(&ty[..n], &val[..m], &mut out);
-    io::write_all(STDOUT_FILENO, &out[..k]);
+    rt.write_all(&out[..k])
 }
 
-fn main() {
-    show(b"eight-hits/job.typ", b"eight-hits/job.val");
-    show(b"mistyped/job.typ", b"mistyped/job.val");
-    show(b"other-type/job.typ", b"other-type/job.val");
-    show(b"never/job.typ", b"never/job.val");
-    show(b"long-type/job.typ", b"long-type/job.val");
-    show(b"long-value/job.typ", b"long-value/job.val");
-    show(b"missing/job.typ", b"missing/job.val");
-    show(b"nothing/job.typ", b"nothing/job.val");
-    show(b"width-0/job.typ", b"width-0/job.val");
-    show(b"four-hits/job.typ", b"four-hits/job.val");
+fn main(rt: HostRuntime) -> io::Result<()> {
+    show(&rt, "eight-hits/job.typ", "eight-hits/job.val")?;
+    show(&rt, "mistyped/job.typ", "mistyped/job.val")?;
+    show(&rt, "other-type/job.typ", "other-type/job.val")?;
+    show(&rt, "never/job.typ", "never/job.val")?;
+    show(&rt, "long-type/job.typ", "long-type/job.val")?;
+    show(&rt, "long-value/job.typ", "long-value/job.val")?;
+    show(&rt, "missing/job.typ", "missing/job.val")?;
+    show(&rt, "nothing/job.typ", "nothing/job.val")?;
+    show(&rt, "width-0/job.typ", "width-0/job.val")?;
+    show(&rt, "four-hits/job.typ", "four-hits/job.val")
 }

@@ -1,30 +1,27 @@
-// The program `replay`: puts the recorded cases of the file `cases` through the eleven public entries, and prints for each entry how many cases there are
-// and how many differ. Of each case the number, the length and every lent byte are compared; of `room` and `shape_records`, which write nothing, all numbers;
-// of `search` the number, and whether the frame that it found is one of those that match.
+// The program `replay`: puts the recorded cases of the file `cases` through the ten public entries, and prints for each entry how many cases there are
+// and how many differ. Of each case the number, the length and every lent byte are compared; of `room` and `shape_records`, which write nothing, all numbers.
 //
 // The file is the number of its cases, in three bytes, and the cases. A case is a head of 20 bytes and a body of five files:
 //   entry, number: a byte each
 //   room, and the lengths of the five files: three bytes each, the highest first
-//   type; value, shape, frame or day file; path; value of an edit or of a search; result
+//   type; value, shape or frame; path; value of an edit; result
 // The files that an entry does not take are empty. So many bytes are lent as the room tells: the frame of an edit, otherwise all 0xA5.
-// The result of `room` and of `shape_records` are the numbers that they tell, three bytes each. That of `search` has a byte for each frame up to the last that
-// matches: 1 where it matches, else 0. It is empty where none does.
+// The result of `room` and of `shape_records` are the numbers that they tell, three bytes each.
 #![tactic(auto)]
 
 ghost use Rattle.std.specs.Prelude.{◌+◌, ◌≤◌, ◌<◌, ◌≡◌, length};
 ghost use Rattle.replay.specs.Cases.{Stands};
 
-use bytes::copy;
-use check::same;
-use libc::STDOUT_FILENO;
+use files::fill;
 use niegluk::{
-    clean_shape, lower, part_edit, part_read, read_frame, reconstruct, search, shape_records,
-    write_frame, write_shape,
+    clean_shape, lower, part_edit, part_read, read_frame, reconstruct, shape_records, write_frame,
+    write_shape,
 };
-use reply::{
-    Found, Reply, TypeRoom, found_flag, found_index, found_number, length_of, number, room_number,
-    room_of,
-};
+use reply::{Reply, TypeRoom, length_of, number, room_number, room_of};
+use std::fs::File;
+use std::io;
+use std::io::Read;
+use std::rt::Files;
 use value::wide;
 
 // The bytes of a head.
@@ -45,11 +42,8 @@ const TELLS_ROOM: u8 = 9;
 // The entry that tells the records of a value's shape.
 const TELLS_RECORDS: u8 = 10;
 
-// The entry that searches.
-const SEARCHES: u8 = 11;
-
 // The last entry.
-const LAST: u8 = 11;
+const LAST: u8 = 10;
 
 // What the head of a case tells, and where its files start in the body. The entry is 0 where the case cannot be read, or is of no entry.
 #[derive(Clone, Copy)]
@@ -125,33 +119,33 @@ fn case_of(head: &[u8; HEAD]) -> Case
 }
 
 // How many cases the file tells to have; none where it cannot be read.
-fn read_count(fd: i32) -> usize
+fn read_count<R: Read>(reader: &mut R) -> usize
     ensures { result < 16777216 }
 {
     let mut n = [0u8; 3];
-    if io::read_full(fd, &mut n) < 3 {
+    if fill(reader, &mut n).unwrap_or(0) < 3 {
         return 0;
     }
     number_at(&n, 0)
 }
 
 // Reads so many bytes to the front of `buf`; are they there?
-fn fills(fd: i32, n: usize, buf: &mut [u8]) -> bool
+fn fills<R: Read>(reader: &mut R, n: usize, buf: &mut [u8]) -> bool
     requires { n ≤ length buf.old }
 {
-    io::read_full(fd, &mut buf[0..n]) == n
+    fill(reader, &mut buf[0..n]).unwrap_or(0) == n
 }
 
 // Reads the next case, and puts its body to the front of `body`.
-fn read_case(fd: i32, body: &mut [u8; BODY]) -> Case
+fn read_case<R: Read>(reader: &mut R, body: &mut [u8; BODY]) -> Case
     ensures { Stands result 70000 }
 {
     let mut head = [0u8; HEAD];
-    if io::read_full(fd, &mut head) < HEAD {
+    if fill(reader, &mut head).unwrap_or(0) < HEAD {
         return unreadable();
     }
     let c = case_of(&head);
-    if !fills(fd, c.end, body) {
+    if !fills(reader, c.end, body) {
         return unreadable();
     }
     c
@@ -162,8 +156,9 @@ fn put(s: &[u8], from: usize, to: usize, out: &mut [u8])
     requires from_le_to { from ≤ to }
     requires to_in_bounds { to ≤ length s.now }
 {
-    if to - from <= out.len() {
-        copy(&s[from..to], out);
+    let len = to - from;
+    if len <= out.len() {
+        out[..len].copy_from_slice(&s[from..to]);
     }
 }
 
@@ -225,7 +220,7 @@ fn agrees(s: &[u8], c: Case, out: &mut [u8], told: &mut [u8]) -> bool
     if !tells(r, c.number, c.end - c.result) {
         return false;
     }
-    same(out, told)
+    &*out == &*told
 }
 
 // The number of three bytes at a place of a result; 0 where the result ends before it, as that of a refusal does.
@@ -269,43 +264,6 @@ fn records_agree(s: &[u8], c: Case) -> bool
     tells(r, c.number, told_at(&s[result..end], 0))
 }
 
-// Does the frame of this index have a mark?
-fn is_marked(marks: &[u8], index: usize) -> bool {
-    if marks.len() <= index {
-        return false;
-    }
-    marks[index] == 1
-}
-
-// Is this what a search may find? Any frame with a mark is right, and none, with the index 0, only where there are no marks.
-fn may_find(x: Found, marks: &[u8]) -> bool {
-    if found_flag(x) == 1 {
-        return is_marked(marks, found_index(x));
-    }
-    found_flag(x) == 0 && found_index(x) == 0 && marks.len() == 0
-}
-
-// Does `search` answer the case's number and the index of a frame that matches?
-fn search_agrees(s: &[u8], c: Case) -> bool
-    requires { Stands c (length s.now) }
-{
-    let file = c.file;
-    let path = c.path;
-    let value = c.value;
-    let result = c.result;
-    let end = c.end;
-    let x = search(
-        &s[0..file],
-        &s[file..path],
-        &s[path..value],
-        &s[value..result],
-    );
-    if found_number(x) != c.number as u32 {
-        return false;
-    }
-    may_find(x, &s[result..end])
-}
-
 // A buffer before it is lent.
 fn filled() -> [u8; ROOM]
     ensures { 65536 ≡ length result }
@@ -323,9 +281,6 @@ fn holds(body: &[u8; BODY], c: Case) -> bool
     if c.entry == TELLS_RECORDS {
         return records_agree(body, c);
     }
-    if c.entry == SEARCHES {
-        return search_agrees(body, c);
-    }
     let room = c.room;
     if ROOM < room {
         return false;
@@ -336,15 +291,15 @@ fn holds(body: &[u8; BODY], c: Case) -> bool
 }
 
 // Counts the cases of an entry, and those that differ.
-fn count(entry: u8) -> Tally {
-    let fd = os::open_read(b"cases");
-    let n = read_count(fd);
+fn count(rt: &impl Files, entry: u8) -> io::Result<Tally> {
+    let mut file = File::open(rt, "cases")?;
+    let n = read_count(&mut file);
     let mut body = [0u8; BODY];
     let mut cases = 0;
     let mut differ = 0;
     let mut i = 0;
     while i < n {
-        let c = read_case(fd, &mut body);
+        let c = read_case(&mut file, &mut body);
         if c.entry == entry {
             cases += 1;
             if !holds(&body, c) {
@@ -353,43 +308,31 @@ fn count(entry: u8) -> Tally {
         }
         i += 1;
     }
-    libc::close(fd);
-    Tally {
-        cases: cases,
-        differ: differ,
-    }
+    Ok(Tally { cases, differ })
 }
 
 // Prints the line of an entry.
-fn show(entry: u8, name: &[u8]) {
-    let t = count(entry);
-    io::write_all(STDOUT_FILENO, name);
-    io::write_all(STDOUT_FILENO, b" ");
-    io::print_decimal(STDOUT_FILENO, t.cases);
-    io::write_all(STDOUT_FILENO, b" cases, ");
-    io::print_decimal(STDOUT_FILENO, t.differ);
-    io::write_all(STDOUT_FILENO, b" differ\n");
+fn show(rt: &(impl Files + Print), entry: u8, name: &str) -> io::Result<()> {
+    let Tally { cases, differ } = count(rt, entry)?;
+    println!(rt; "{name} {cases} cases, {differ} differ")
 }
 
 // Prints how many cases cannot be read.
-fn show_unreadable() {
-    let t = count(0);
-    io::write_all(STDOUT_FILENO, b"unreadable ");
-    io::print_decimal(STDOUT_FILENO, t.cases);
-    io::write_all(STDOUT_FILENO, b"\n");
+fn show_unreadable(rt: &(impl Files + Print)) -> io::Result<()> {
+    let Tally { cases, .. } = count(rt, 0)?;
+    println!(rt; "unreadable {cases}")
 }
 
-fn main() {
-    show(1, b"lower");
-    show(2, b"write_shape");
-    show(3, b"reconstruct");
-    show(4, b"write_frame");
-    show(5, b"read_frame");
-    show(6, b"part_read");
-    show(7, b"part_edit");
-    show(8, b"clean_shape");
-    show(9, b"room");
-    show(10, b"shape_records");
-    show(11, b"search");
-    show_unreadable();
+fn main(rt: HostRuntime) -> io::Result<()> {
+    show(&rt, 1, "lower")?;
+    show(&rt, 2, "write_shape")?;
+    show(&rt, 3, "reconstruct")?;
+    show(&rt, 4, "write_frame")?;
+    show(&rt, 5, "read_frame")?;
+    show(&rt, 6, "part_read")?;
+    show(&rt, 7, "part_edit")?;
+    show(&rt, 8, "clean_shape")?;
+    show(&rt, 9, "room")?;
+    show(&rt, 10, "shape_records")?;
+    show_unreadable(&rt)
 }

@@ -4,195 +4,217 @@
 
 use cleaner::{clean_files, clean_here};
 use files::read_file;
-use libc::STDOUT_FILENO;
+use std::fs::File;
+use std::io;
+use std::rt::Files;
 use text::write_digits;
 
 // Prints the shape in the file of that name, or that there is none.
-fn show_shape(path: &[u8]) {
+fn show_shape(rt: &(impl Files + Print), path: &str) -> io::Result<()> {
     let mut shape = [0u8; 65540];
     let mut line = [0u8; 65540];
-    if !is_there(path) {
-        io::write_all(STDOUT_FILENO, b"no new.shape\n");
-        return;
+    if !is_there(rt, path) {
+        return println!(rt; "no new.shape");
     }
-    let n = read_file(path, &mut shape);
+    let n = read_file(rt, path, &mut shape);
     let k = write_digits(&shape[..n], &mut line);
-    io::write_all(STDOUT_FILENO, &line[..k]);
-    io::write_all(STDOUT_FILENO, b"\n");
+    rt.write_all(&line[..k])?;
+    println!(rt; "")
 }
 
 // Whether there is a file of that name.
-fn is_there(path: &[u8]) -> bool {
-    let fd = os::open_read(path);
-    if fd < 0 {
-        return false;
-    }
-    libc::close(fd);
-    true
+fn is_there(rt: &impl Files, path: &str) -> bool {
+    File::open(rt, path).is_ok()
 }
 
-fn show(name: &[u8], old_type: &[u8], old_shape: &[u8], new: &[u8], part: &[u8]) {
-    io::write_all(STDOUT_FILENO, name);
-    clean_files(old_type, old_shape, new, part);
-    show_shape(new);
-    if is_there(part) {
-        io::write_all(STDOUT_FILENO, b"a part is left\n");
+fn show(
+    rt: &(impl Files + Print + Eprint),
+    name: &str,
+    old_type: &str,
+    old_shape: &str,
+    new: &str,
+    part: &str,
+) -> io::Result<()> {
+    println!(rt; "{name}")?;
+    clean_files(rt, old_type, old_shape, new, part)?;
+    show_shape(rt, new)?;
+    if is_there(rt, part) {
+        println!(rt; "a part is left")?;
     }
+    Ok(())
 }
 
 // Spots of every kind, and a shape that passes.
-fn spots() {
+fn spots(rt: &(impl Files + Print + Eprint)) -> io::Result<()> {
     show(
-        b"stored\n",
-        b"stored/old.typ",
-        b"stored/old.shape",
-        b"stored/new.shape",
-        b"stored/new.shape.part",
-    );
+        rt,
+        "stored",
+        "stored/old.typ",
+        "stored/old.shape",
+        "stored/new.shape",
+        "stored/new.shape.part",
+    )?;
     show(
-        b"passes\n",
-        b"passes/old.typ",
-        b"passes/old.shape",
-        b"passes/new.shape",
-        b"passes/new.shape.part",
-    );
+        rt,
+        "passes",
+        "passes/old.typ",
+        "passes/old.shape",
+        "passes/new.shape",
+        "passes/new.shape.part",
+    )?;
     show(
-        b"unit\n",
-        b"unit/old.typ",
-        b"unit/old.shape",
-        b"unit/new.shape",
-        b"unit/new.shape.part",
-    );
+        rt,
+        "unit",
+        "unit/old.typ",
+        "unit/old.shape",
+        "unit/new.shape",
+        "unit/new.shape.part",
+    )?;
     show(
-        b"array-of-0\n",
-        b"array-of-0/old.typ",
-        b"array-of-0/old.shape",
-        b"array-of-0/new.shape",
-        b"array-of-0/new.shape.part",
-    );
+        rt,
+        "array-of-0",
+        "array-of-0/old.typ",
+        "array-of-0/old.shape",
+        "array-of-0/new.shape",
+        "array-of-0/new.shape.part",
+    )
 }
 
 // An older new.shape, a type that does not lower, and the largest shape.
-fn more_spots() {
+fn more_spots(rt: &(impl Files + Print + Eprint)) -> io::Result<()> {
     show(
-        b"again\n",
-        b"again/old.typ",
-        b"again/old.shape",
-        b"again/new.shape",
-        b"again/new.shape.part",
-    );
+        rt,
+        "again",
+        "again/old.typ",
+        "again/old.shape",
+        "again/new.shape",
+        "again/new.shape.part",
+    )?;
     show(
-        b"never\n",
-        b"never/old.typ",
-        b"never/old.shape",
-        b"never/new.shape",
-        b"never/new.shape.part",
-    );
+        rt,
+        "never",
+        "never/old.typ",
+        "never/old.shape",
+        "never/new.shape",
+        "never/new.shape.part",
+    )?;
     show(
-        b"largest\n",
-        b"largest/old.typ",
-        b"largest/old.shape",
-        b"largest/new.shape",
-        b"largest/new.shape.part",
-    );
+        rt,
+        "largest",
+        "largest/old.typ",
+        "largest/old.shape",
+        "largest/new.shape",
+        "largest/new.shape.part",
+    )
 }
 
 // Shapes that are refused.
-fn no_values() {
+fn no_values(rt: &(impl Files + Print + Eprint)) -> io::Result<()> {
     show(
-        b"bit\n",
-        b"bit/old.typ",
-        b"bit/old.shape",
-        b"bit/new.shape",
-        b"bit/new.shape.part",
-    );
+        rt,
+        "bit",
+        "bit/old.typ",
+        "bit/old.shape",
+        "bit/new.shape",
+        "bit/new.shape.part",
+    )?;
     show(
-        b"none\n",
-        b"none/old.typ",
-        b"none/old.shape",
-        b"none/new.shape",
-        b"none/new.shape.part",
-    );
+        rt,
+        "none",
+        "none/old.typ",
+        "none/old.shape",
+        "none/new.shape",
+        "none/new.shape.part",
+    )?;
     show(
-        b"cut\n",
-        b"cut/old.typ",
-        b"cut/old.shape",
-        b"cut/new.shape",
-        b"cut/new.shape.part",
-    );
+        rt,
+        "cut",
+        "cut/old.typ",
+        "cut/old.shape",
+        "cut/new.shape",
+        "cut/new.shape.part",
+    )?;
     show(
-        b"long\n",
-        b"long/old.typ",
-        b"long/old.shape",
-        b"long/new.shape",
-        b"long/new.shape.part",
-    );
+        rt,
+        "long",
+        "long/old.typ",
+        "long/old.shape",
+        "long/new.shape",
+        "long/new.shape.part",
+    )
 }
 
 // Types that are refused.
-fn no_types() {
+fn no_types(rt: &(impl Files + Print + Eprint)) -> io::Result<()> {
     show(
-        b"bad-type\n",
-        b"bad-type/old.typ",
-        b"bad-type/old.shape",
-        b"bad-type/new.shape",
-        b"bad-type/new.shape.part",
-    );
+        rt,
+        "bad-type",
+        "bad-type/old.typ",
+        "bad-type/old.shape",
+        "bad-type/new.shape",
+        "bad-type/new.shape.part",
+    )?;
     show(
-        b"odd-type\n",
-        b"odd-type/old.typ",
-        b"odd-type/old.shape",
-        b"odd-type/new.shape",
-        b"odd-type/new.shape.part",
-    );
+        rt,
+        "odd-type",
+        "odd-type/old.typ",
+        "odd-type/old.shape",
+        "odd-type/new.shape",
+        "odd-type/new.shape.part",
+    )?;
     show(
-        b"long-type\n",
-        b"long-type/old.typ",
-        b"long-type/old.shape",
-        b"long-type/new.shape",
-        b"long-type/new.shape.part",
-    );
+        rt,
+        "long-type",
+        "long-type/old.typ",
+        "long-type/old.shape",
+        "long-type/new.shape",
+        "long-type/new.shape.part",
+    )?;
     show(
-        b"longer-type\n",
-        b"longer-type/old.typ",
-        b"longer-type/old.shape",
-        b"longer-type/new.shape",
-        b"longer-type/new.shape.part",
-    );
+        rt,
+        "longer-type",
+        "longer-type/old.typ",
+        "longer-type/old.shape",
+        "longer-type/new.shape",
+        "longer-type/new.shape.part",
+    )
 }
 
 // Files that are missing, and an older new.shape that stays.
-fn no_files() {
+fn no_files(rt: &(impl Files + Print + Eprint)) -> io::Result<()> {
     show(
-        b"missing\n",
-        b"missing/old.typ",
-        b"missing/old.shape",
-        b"missing/new.shape",
-        b"missing/new.shape.part",
-    );
+        rt,
+        "missing",
+        "missing/old.typ",
+        "missing/old.shape",
+        "missing/new.shape",
+        "missing/new.shape.part",
+    )?;
     show(
-        b"nothing\n",
-        b"nothing/old.typ",
-        b"nothing/old.shape",
-        b"nothing/new.shape",
-        b"nothing/new.shape.part",
-    );
+        rt,
+        "nothing",
+        "nothing/old.typ",
+        "nothing/old.shape",
+        "nothing/new.shape",
+        "nothing/new.shape.part",
+    )?;
     show(
-        b"stale\n",
-        b"stale/old.typ",
-        b"stale/old.shape",
-        b"stale/new.shape",
-        b"stale/new.shape.part",
-    );
+        rt,
+        "stale",
+        "stale/old.typ",
+        "stale/old.shape",
+        "stale/new.shape",
+        "stale/new.shape.part",
+    )
 }
 
-fn main() {
+fn main(rt: HostRuntime) -> io::Result<()> {
     // what the program `clean` does, in the folder that this one runs in
-    clean_here();
-    show_shape(b"new.shape");
-    spots();
-    more_spots();
-    no_values();
-    no_types();
-    no_files();
+    clean_here(&rt)?;
+    show_shape(&rt, "new.shape")?;
+    spots(&rt)?;
+    more_spots(&rt)?;
+    no_values(&rt)?;
+    no_types(&rt)?;
+    no_files(&rt)
 }

@@ -1,7 +1,7 @@
 #!/usr/bin/env python3
 """Brings the names of this repository's own definitions and lemmas to the spelling of today's Rattle.
 
-usage: python3 tools/respell.py FOLDER      after /opt/rattle/port/port.py, once, at the top of the repository FOLDER
+usage: python3 tools/respell.py FOLDER      after the kit's port.py, once, at the top of the repository FOLDER
 
 Words are in snake case: `left-size` becomes `left_size`, `headAt` becomes `head_at`. Types, modules and what begins with
 them keep their capitals and dashes. A name that a file takes from the library keeps the library's spelling, and so does

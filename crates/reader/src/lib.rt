@@ -1,6 +1,5 @@
 // A frame's bits behind a reader that holds the bytes and the next bit. The functions over the reader are thin: each makes it or takes it apart,
-// and leaves the work to crate `bits`. The borrow checker covers no function that has such a struct, so each is proved by a walk of its MIR.
-// Whoever calls the last three, whose parameters are plain slices, needs no such walk.
+// and leaves the work to crate `bits`. The last three, whose parameters are plain slices, are what the walks call.
 #![tactic(auto)]
 
 ghost use Rattle.std.specs.Prelude.{◌≡◌, false, not, ◌+◌, ◌*◌, ◌<◌, ◌≤◌, ◌^◌, length, get_or};

@@ -190,8 +190,8 @@ fn of_parts(n: usize) -> Vec<Ty> {
     all
 }
 
-/// Runs every entry on values with n parts or variants, for every n up to and beyond what the table of left sizes has,
-/// and for some that are far beyond it; true if nothing differs.
+/// Runs every entry on values with n parts or variants, for every n up to and beyond the 1,024 records of a type file,
+/// and for some that are far beyond them; true if nothing differs.
 pub fn splits(seed: u64) -> bool {
     let mut r = Random::new(seed);
     let mut tally = Tally::default();

@@ -1,5 +1,5 @@
 -- What the walk over a frame asks and answers.
-use Rattle.std.specs.Prelude.{◌≡◌, Bool, true, false, List, ℕ, ◌+◌, ◌*◌, ◌^◌, ◌≤◌, ◌<◌, min, length}
+use Rattle.std.specs.Prelude.{◌≡◌, Bool, true, false, List, ℕ, ◌+◌, ◌*◌, ◌^◌, ◌≤◌, ◌<◌, min, length, Option as Optional, Some, None, Result, Ok, Err}
 use Rattle.std.proofs.Math.Option.{Option, none, some}
 use Rattle.reply.specs.Numbers.{refusal_number}
 use Rattle.model.specs.Outcome.{Outcome, done, refused, ◌>>=◌}
@@ -18,11 +18,8 @@ use Rattle.record.specs.declared.Form.{Form}
 use Rattle.record.specs.declared.Form.TheVariants as form
 use Rattle.record.specs.Forms.{form_of}
 use Rattle.rebuild.specs.Forms.{most_records}
-use Rattle.accept.specs.declared.Seen.{Seen}
-use Rattle.accept.specs.declared.Seen.TheVariants.{Of, Stray}
-use Rattle.accept.specs.declared.Accepted.{Accepted}
-use Rattle.accept.specs.declared.Accepted.TheVariants.{Records, Refused}
 use Rattle.accept.specs.Forms.{place, types_in}
+use Rattle.reply.specs.declared.Refusal.{Refusal}
 
 -- NUMBERS
 
@@ -31,19 +28,19 @@ abbrev pub cut : ℕ → ℕ
 cut n = min n most_records
 
 -- what is seen, as the walk answers it
-abbrev pub answer : Option ℕ → Seen
-answer none = Stray
-answer (some n) = Of (cut n)
+abbrev pub answer : Option ℕ → Optional ℕ
+answer none = None
+answer (some n) = Some (cut n)
 
-abbrev pub count_of : Seen → ℕ
-count_of (Of n) = n
-count_of Stray = 0
+abbrev pub count_of : Optional ℕ → ℕ
+count_of (Some n) = n
+count_of None = 0
 
 -- both, added up
-abbrev pub both_of : Seen → Seen → Seen
-both_of Stray b = Stray
-both_of (Of n) Stray = Stray
-both_of (Of n) (Of m) = Of (cut (n + m))
+abbrev pub both_of : Optional ℕ → Optional ℕ → Optional ℕ
+both_of None b = None
+both_of (Some n) None = None
+both_of (Some n) (Some m) = Some (cut (n + m))
 
 -- COPIES
 
@@ -85,9 +82,9 @@ pub record Lowered (s : List ℕ) : Type 0 where
 unfoldable pub accepted : Ty → List ℕ → Outcome ℕ
 accepted t file = unframe place t file >>= (λ v. done (length (encode t v)))
 
-abbrev pub outcome_of : Accepted → Outcome ℕ
-outcome_of (Records n) = done n
-outcome_of (Refused x) = refused (refusal_number x)
+abbrev pub outcome_of : Result ℕ Refusal → Outcome ℕ
+outcome_of (Ok n) = done n
+outcome_of (Err x) = refused (refusal_number x)
 
 -- A PART
 

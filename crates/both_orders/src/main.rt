@@ -7,27 +7,49 @@ ghost use Rattle.io.specs.Counts.{IsPrefixLen};
 
 use files::read_file;
 use niegluk::{part_edit, part_read, write_frame};
-use reply::{Reply, length_of};
 use std::io;
 use std::rt::Files;
 use text::{write_hex, write_refused};
 
-// An edit of the job's frame.
+// An edit of the job's frame: the file of a part's path, and that of the part's new value, or none for the value that is there.
 #[derive(Clone, Copy)]
-enum Edit {
-    // none
-    Stay,
-    // the camera's: the list of hits to one of four, to one of five, and to none
-    FourHits,
-    FiveHits,
-    NoHits,
-    // a part of that list
-    FirstHit,
-    // the list of hits to what it is
-    SameHits,
-    // the density sensor's
-    Density,
+struct Edit {
+    path: &'static str,
+    value: Option<&'static str>,
 }
+
+// The camera's: the list of hits to one of four, to one of five, to none, and to what it is.
+const FOUR_HITS: Edit = Edit {
+    path: "hits.path",
+    value: Some("four.val"),
+};
+
+const FIVE_HITS: Edit = Edit {
+    path: "hits.path",
+    value: Some("five.val"),
+};
+
+const NO_HITS: Edit = Edit {
+    path: "hits.path",
+    value: Some("none.val"),
+};
+
+const SAME_HITS: Edit = Edit {
+    path: "hits.path",
+    value: None,
+};
+
+// The camera's of a part of that list.
+const FIRST_HIT: Edit = Edit {
+    path: "first-hit.path",
+    value: Some("first-hit.val"),
+};
+
+// The density sensor's.
+const DENSITY: Edit = Edit {
+    path: "density.path",
+    value: Some("density.val"),
+};
 
 // Writes the frame of the job in the current folder over the front of `frame`, and answers its length; 0 where it is refused.
 fn job_frame(rt: &impl Files, ty: &[u8], frame: &mut [u8]) -> usize
@@ -35,43 +57,14 @@ fn job_frame(rt: &impl Files, ty: &[u8], frame: &mut [u8]) -> usize
 {
     let mut value = [0u8; 1024];
     let n = read_file(rt, "job.val", &mut value);
-    length_of(write_frame(ty, &value[..n], frame))
-}
-
-// Edits the part that the path in the one file leads to, to the value in the other, and prints the line of a refusal.
-fn edit_to(
-    rt: &(impl Files + Print),
-    ty: &[u8],
-    frame: &mut [u8],
-    path_name: &str,
-    value_name: &str,
-) -> io::Result<()> {
-    let mut path = [0u8; 16];
-    let mut value = [0u8; 1024];
-    let n = read_file(rt, path_name, &mut path);
-    let m = read_file(rt, value_name, &mut value);
-    edit_part(rt, ty, frame, &path[..n], &value[..m])
-}
-
-// Edits the part that the path in the file leads to, to what it is.
-fn edit_to_same(
-    rt: &(impl Files + Print),
-    ty: &[u8],
-    frame: &mut [u8],
-    path_name: &str,
-) -> io::Result<()> {
-    let mut path = [0u8; 16];
-    let mut value = [0u8; 1024];
-    let n = read_file(rt, path_name, &mut path);
-    let m = read_part(ty, frame, &path[..n], &mut value);
-    edit_part(rt, ty, frame, &path[..n], &value[..m])
+    write_frame(ty, &value[..n], frame).unwrap_or(0)
 }
 
 // Writes the value file of a part over the front of `value`, and answers its length; 0 where it is refused.
 fn read_part(ty: &[u8], frame: &[u8], path: &[u8], value: &mut [u8]) -> usize
     ensures { IsPrefixLen result value.new }
 {
-    length_of(part_read(ty, frame, path, value))
+    part_read(ty, frame, path, value).unwrap_or(0)
 }
 
 // Edits a part, and prints the line of a refusal.
@@ -82,27 +75,24 @@ fn edit_part(
     path: &[u8],
     value: &[u8],
 ) -> io::Result<()> {
-    match part_edit(ty, frame, path, value) {
-        Reply::Done(_) => Ok(()),
-        Reply::Refused(x) => {
-            let mut line = [0u8; 12];
-            let k = write_refused(x, &mut line);
-            rt.write_all(&line[..k])
-        }
-    }
+    let Err(x) = part_edit(ty, frame, path, value) else {
+        return Ok(());
+    };
+    let mut line = [0u8; 12];
+    let k = write_refused(x, &mut line);
+    rt.write_all(&line[..k])
 }
 
-// One of the edits.
-fn apply(rt: &(impl Files + Print), which: Edit, ty: &[u8], frame: &mut [u8]) -> io::Result<()> {
-    match which {
-        Edit::Stay => Ok(()),
-        Edit::FourHits => edit_to(rt, ty, frame, "hits.path", "four.val"),
-        Edit::FiveHits => edit_to(rt, ty, frame, "hits.path", "five.val"),
-        Edit::NoHits => edit_to(rt, ty, frame, "hits.path", "none.val"),
-        Edit::FirstHit => edit_to(rt, ty, frame, "first-hit.path", "first-hit.val"),
-        Edit::SameHits => edit_to_same(rt, ty, frame, "hits.path"),
-        Edit::Density => edit_to(rt, ty, frame, "density.path", "density.val"),
-    }
+// Makes an edit, and prints the line of a refusal.
+fn apply(rt: &(impl Files + Print), edit: Edit, ty: &[u8], frame: &mut [u8]) -> io::Result<()> {
+    let mut path = [0u8; 16];
+    let mut value = [0u8; 1024];
+    let n = read_file(rt, edit.path, &mut path);
+    let m = match edit.value {
+        Some(name) => read_file(rt, name, &mut value),
+        None => read_part(ty, frame, &path[..n], &mut value),
+    };
+    edit_part(rt, ty, frame, &path[..n], &value[..m])
 }
 
 // Prints a frame, two digits a byte.
@@ -115,56 +105,41 @@ fn show(rt: &impl Print, frame: &[u8]) -> io::Result<()>
     println!(rt; "")
 }
 
-// Edits a frame twice, and prints what that leaves behind the name of the two edits.
-fn edit_twice(
+// Makes edits of a frame, one after the other, and prints what they leave behind their name.
+fn edit_all(
     rt: &(impl Files + Print),
     name: &str,
     ty: &[u8],
     frame: &mut [u8],
-    first: Edit,
-    second: Edit,
+    edits: &[Edit],
 ) -> io::Result<()>
     requires { length frame.old ≤ 4096 }
 {
     print!(rt; "{name}")?;
-    apply(rt, first, ty, frame)?;
-    apply(rt, second, ty, frame)?;
+    for &edit in edits {
+        apply(rt, edit, ty, frame)?;
+    }
     show(rt, frame)
 }
 
-// Two edits of the job's frame, one after the other.
-fn run(rt: &(impl Files + Print), name: &str, first: Edit, second: Edit) -> io::Result<()> {
+// Edits of the job's frame, one after the other.
+fn run(rt: &(impl Files + Print), name: &str, edits: &[Edit]) -> io::Result<()> {
     let mut ty = [0u8; 4096];
     let mut frame = [0u8; 4096];
     let n = read_file(rt, "job.typ", &mut ty);
     let k = job_frame(rt, &ty[..n], &mut frame);
-    edit_twice(rt, name, &ty[..n], &mut frame[..k], first, second)
+    edit_all(rt, name, &ty[..n], &mut frame[..k], edits)
 }
 
 fn main(rt: HostRuntime) -> io::Result<()> {
-    run(&rt, "the job: ", Edit::Stay, Edit::Stay)?;
-    run(&rt, "four hits, density: ", Edit::FourHits, Edit::Density)?;
-    run(&rt, "density, four hits: ", Edit::Density, Edit::FourHits)?;
-    run(
-        &rt,
-        "four hits, five hits: ",
-        Edit::FourHits,
-        Edit::FiveHits,
-    )?;
-    run(&rt, "five hits: ", Edit::Stay, Edit::FiveHits)?;
-    run(&rt, "the hits already there: ", Edit::SameHits, Edit::Stay)?;
-    run(
-        &rt,
-        "first hit, four hits: ",
-        Edit::FirstHit,
-        Edit::FourHits,
-    )?;
-    run(
-        &rt,
-        "four hits, first hit: ",
-        Edit::FourHits,
-        Edit::FirstHit,
-    )?;
-    run(&rt, "first hit, no hits: ", Edit::FirstHit, Edit::NoHits)?;
-    run(&rt, "no hits, first hit: ", Edit::NoHits, Edit::FirstHit)
+    run(&rt, "the job: ", &[])?;
+    run(&rt, "four hits, density: ", &[FOUR_HITS, DENSITY])?;
+    run(&rt, "density, four hits: ", &[DENSITY, FOUR_HITS])?;
+    run(&rt, "four hits, five hits: ", &[FOUR_HITS, FIVE_HITS])?;
+    run(&rt, "five hits: ", &[FIVE_HITS])?;
+    run(&rt, "the hits already there: ", &[SAME_HITS])?;
+    run(&rt, "first hit, four hits: ", &[FIRST_HIT, FOUR_HITS])?;
+    run(&rt, "four hits, first hit: ", &[FOUR_HITS, FIRST_HIT])?;
+    run(&rt, "first hit, no hits: ", &[FIRST_HIT, NO_HITS])?;
+    run(&rt, "no hits, first hit: ", &[NO_HITS, FIRST_HIT])
 }

@@ -1,5 +1,5 @@
 -- What `make` knows at its two answers. A buffer of 65,536 bytes has room for every cleaned shape, so it is never 17.
-use Rattle.std.specs.Prelude.{◌≡◌, refl, true, false, List, ℕ, ◌≤◌, length, take, drop}
+use Rattle.std.specs.Prelude.{◌≡◌, refl, true, false, List, ℕ, ◌≤◌, length, take, drop, Result, Ok, Err}
 use Rattle.std.proofs.Common.{sym, ap, ◌∙◌, arith, length-append}
 use Rattle.model.specs.Outcome.{done, refused}
 use Rattle.model.specs.Operations.{cleaned_shape, delivered}
@@ -8,8 +8,6 @@ use Rattle.model.proofs.Laws.Cleaning.{cleaned_short}
 use Rattle.model.proofs.Laws.Delivered.{Answer, parts, delivers, Told, gave, withheld, denied, told, accepted}
 use Rattle.model.proofs.Laws.Numbered.{never_zero, cleaned_row}
 use Rattle.reply.specs.declared.Refusal.{Refusal}
-use Rattle.reply.specs.declared.Reply.{Reply}
-use Rattle.reply.specs.declared.Reply.TheVariants.{Done, Refused}
 use Rattle.reply.specs.Numbers.{refusal_number, number_of, length_of}
 use Rattle.structural.specs.Writing.{Wrote}
 use Rattle.text.specs.Lines.{refusal_line}
@@ -18,12 +16,12 @@ use Rattle.text.proofs.Laws.Written.{cut_out, wrote_counts}
 use Rattle.io.specs.Counts.{IsPrefixLen}
 use Rattle.cleaner.specs.Gives.{given}
 
-module _ (ty shape out left : List ℕ) (r : Reply) (room : 65536 ≤ length out) (h : CleanShape ty shape out (number_of r) (length_of r) left) where
+module _ (ty shape out left : List ℕ) (r : Result ℕ Refusal) (room : 65536 ≤ length out) (h : CleanShape ty shape out (number_of r) (length_of r) left) where
   -- THE CLEANED SHAPE
 
-  module _ (n : ℕ) (e : r ≡ Done n) where
+  module _ (n : ℕ) (e : r ≡ Ok n) where
     call : CleanShape ty shape out 0 n left
-    call = ap (λ (x : Reply). (number_of x, length_of x, left)) (sym e) ∙ h
+    call = ap (λ (x : Result ℕ Refusal). (number_of x, length_of x, left)) (sym e) ∙ h
 
     cleans : cleaned_shape ty shape ≡ done (take n left)
     cleans = accepted (cleaned_shape ty shape) out (never_zero (cleaned_row ty shape) refl) n left call
@@ -39,9 +37,9 @@ module _ (ty shape out left : List ℕ) (r : Reply) (room : 65536 ≤ length out
 
   -- THE LINE
 
-  module _ (x : Refusal) (e : r ≡ Refused x) where
+  module _ (x : Refusal) (e : r ≡ Err x) where
     answer : ◌≡◌ {A = Answer} (refusal_number x, 0, left) (delivered (cleaned_shape ty shape) out)
-    answer = ap (λ (y : Reply). (number_of y, length_of y, left)) (sym e) ∙ h
+    answer = ap (λ (y : Result ℕ Refusal). (number_of y, length_of y, left)) (sym e) ∙ h
 
     refusal : (cleaned_shape ty shape ≡ refused (refusal_number x)) × (left ≡ out)
     refusal = go (told (cleaned_shape ty shape) out (refusal_number x) 0 left answer)

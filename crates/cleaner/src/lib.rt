@@ -1,40 +1,26 @@
 // What the program `clean` does in a folder. What it gives of the two files is made whole in a buffer, by the proved entry; the rest reads and writes.
 #![tactic(auto)]
 
-ghost use Rattle.std.specs.Prelude.{◌≡◌, ◌≤◌, length, take};
+ghost use Rattle.std.specs.Prelude.{◌≡◌, ◌≤◌, length};
 ghost use Rattle.model.specs.Operations.{cleaned_shape};
 ghost use Rattle.io.specs.Counts.{IsPrefixLen};
-ghost use Rattle.cleaner.specs.Gives.{given};
+ghost use Rattle.cleaner.specs.Gives.{given, made, made_length};
 
 use files::{read_file, read_records, write_file};
 use niegluk::clean_shape;
-use reply::Reply;
 use std::io;
 use std::rt::Files;
 use text::write_refused;
 
-// What stands over the front of a buffer: a cleaned shape, or else the line of a refusal, of so many bytes.
-#[derive(Clone, Copy)]
-pub struct Made {
-    pub cleaned: bool,
-    pub len: usize,
-}
-
-// Writes what `clean` gives of a type file and a shape file over the front of `out`.
-pub fn make(ty: &[u8], shape: &[u8], out: &mut [u8]) -> Made
+// Writes what `clean` gives of a type file and a shape file over the front of `out`: the cleaned shape, and answers its length, or else the line of the refusal, whose length is then the error.
+pub fn make(ty: &[u8], shape: &[u8], out: &mut [u8]) -> Result<usize, usize>
     requires { 65536 ≤ length out.old }
-    ensures out_after { (result.cleaned, take result.len out.new) ≡ given (cleaned_shape ty.now shape.now) }
-    ensures prefix_len { IsPrefixLen result.len out.new }
+    ensures out_after { made result out.new ≡ given (cleaned_shape ty.now shape.now) }
+    ensures prefix_len { IsPrefixLen (made_length result) out.new }
 {
     match clean_shape(ty, shape, out) {
-        Reply::Done(n) => Made {
-            cleaned: true,
-            len: n,
-        },
-        Reply::Refused(x) => Made {
-            cleaned: false,
-            len: write_refused(x, out),
-        },
+        Ok(n) => Ok(n),
+        Err(x) => Err(write_refused(x, out)),
     }
 }
 
@@ -53,14 +39,9 @@ pub fn clean_files(
     let mut out = [0u8; 65536];
     let n = read_records(rt, old_type, &mut ty);
     let m = read_file(rt, old_shape, &mut shape);
-    let made = make(&ty[..n], &shape[..m], &mut out);
-    let k = made.len;
-    if !made.cleaned {
-        return rt.write_all(&out[..k]);
-    }
-    match write_file(rt, new, part, &out[..k]) {
-        Ok(()) => Ok(()),
-        Err(e) => eprintln!(rt; "{new}: {e}"),
+    match make(&ty[..n], &shape[..m], &mut out) {
+        Ok(k) => write_file(rt, new, part, &out[..k]).or_else(|e| eprintln!(rt; "{new}: {e}")),
+        Err(k) => rt.write_all(&out[..k]),
     }
 }
 

@@ -33,256 +33,81 @@ fn show(
     rt.write_all(&line[..k])
 }
 
+// What `show` does of the folder of that name.
+macro_rules! folder {
+    ($rt:expr, $name:literal) => {
+        show(
+            $rt,
+            $name,
+            concat!($name, "/day.typ"),
+            concat!($name, "/day.frames"),
+            concat!($name, "/day.path"),
+            concat!($name, "/day.val"),
+        )
+    };
+}
+
 // A frame in the first piece, in the last, and at the end of a whole one.
 fn finds(rt: &(impl Files + Print + Eprint)) -> io::Result<()> {
-    show(
-        rt,
-        "first",
-        "first/day.typ",
-        "first/day.frames",
-        "first/day.path",
-        "first/day.val",
-    )?;
-    show(
-        rt,
-        "second",
-        "second/day.typ",
-        "second/day.frames",
-        "second/day.path",
-        "second/day.val",
-    )?;
-    show(
-        rt,
-        "last-piece",
-        "last-piece/day.typ",
-        "last-piece/day.frames",
-        "last-piece/day.path",
-        "last-piece/day.val",
-    )?;
-    show(
-        rt,
-        "whole-pieces",
-        "whole-pieces/day.typ",
-        "whole-pieces/day.frames",
-        "whole-pieces/day.path",
-        "whole-pieces/day.val",
-    )
+    folder!(rt, "first")?;
+    folder!(rt, "second")?;
+    folder!(rt, "last-piece")?;
+    folder!(rt, "whole-pieces")
 }
 
 // Two frames that match, a match of the whole frame, and frames that are longer than a piece.
 fn more_finds(rt: &(impl Files + Print + Eprint)) -> io::Result<()> {
-    show(
-        rt,
-        "two",
-        "two/day.typ",
-        "two/day.frames",
-        "two/day.path",
-        "two/day.val",
-    )?;
-    show(
-        rt,
-        "whole-frame",
-        "whole-frame/day.typ",
-        "whole-frame/day.frames",
-        "whole-frame/day.path",
-        "whole-frame/day.val",
-    )?;
-    show(
-        rt,
-        "long-frames",
-        "long-frames/day.typ",
-        "long-frames/day.frames",
-        "long-frames/day.path",
-        "long-frames/day.val",
-    )
+    folder!(rt, "two")?;
+    folder!(rt, "whole-frame")?;
+    folder!(rt, "long-frames")
 }
 
 // A damaged frame before the one that matches, in its piece and in the one before; only damaged ones.
 fn damaged(rt: &(impl Files + Print + Eprint)) -> io::Result<()> {
-    show(
-        rt,
-        "damaged",
-        "damaged/day.typ",
-        "damaged/day.frames",
-        "damaged/day.path",
-        "damaged/day.val",
-    )?;
-    show(
-        rt,
-        "damaged-piece",
-        "damaged-piece/day.typ",
-        "damaged-piece/day.frames",
-        "damaged-piece/day.path",
-        "damaged-piece/day.val",
-    )?;
-    show(
-        rt,
-        "only-damaged",
-        "only-damaged/day.typ",
-        "only-damaged/day.frames",
-        "only-damaged/day.path",
-        "only-damaged/day.val",
-    )
+    folder!(rt, "damaged")?;
+    folder!(rt, "damaged-piece")?;
+    folder!(rt, "only-damaged")
 }
 
 // No frame that matches, a path that leads nowhere, a value of another type, and no frame at all.
 fn finds_none(rt: &(impl Files + Print + Eprint)) -> io::Result<()> {
-    show(
-        rt,
-        "none",
-        "none/day.typ",
-        "none/day.frames",
-        "none/day.path",
-        "none/day.val",
-    )?;
-    show(
-        rt,
-        "nowhere",
-        "nowhere/day.typ",
-        "nowhere/day.frames",
-        "nowhere/day.path",
-        "nowhere/day.val",
-    )?;
-    show(
-        rt,
-        "other-value",
-        "other-value/day.typ",
-        "other-value/day.frames",
-        "other-value/day.path",
-        "other-value/day.val",
-    )?;
-    show(
-        rt,
-        "no-frame",
-        "no-frame/day.typ",
-        "no-frame/day.frames",
-        "no-frame/day.path",
-        "no-frame/day.val",
-    )
+    folder!(rt, "none")?;
+    folder!(rt, "nowhere")?;
+    folder!(rt, "other-value")?;
+    folder!(rt, "no-frame")
 }
 
 // Types that are refused, and one whose frames have no bytes.
 fn refuses_types(rt: &(impl Files + Print + Eprint)) -> io::Result<()> {
-    show(
-        rt,
-        "bad-type",
-        "bad-type/day.typ",
-        "bad-type/day.frames",
-        "bad-type/day.path",
-        "bad-type/day.val",
-    )?;
-    show(
-        rt,
-        "never",
-        "never/day.typ",
-        "never/day.frames",
-        "never/day.path",
-        "never/day.val",
-    )?;
-    show(
-        rt,
-        "no-bytes",
-        "no-bytes/day.typ",
-        "no-bytes/day.frames",
-        "no-bytes/day.path",
-        "no-bytes/day.val",
-    )
+    folder!(rt, "bad-type")?;
+    folder!(rt, "never")?;
+    folder!(rt, "no-bytes")
 }
 
 // A day file and a path that are cut, each behind frames that match; the day file's length goes first.
 fn refuses_lengths(rt: &(impl Files + Print + Eprint)) -> io::Result<()> {
-    show(
-        rt,
-        "day-length",
-        "day-length/day.typ",
-        "day-length/day.frames",
-        "day-length/day.path",
-        "day-length/day.val",
-    )?;
-    show(
-        rt,
-        "odd-both",
-        "odd-both/day.typ",
-        "odd-both/day.frames",
-        "odd-both/day.path",
-        "odd-both/day.val",
-    )?;
-    show(
-        rt,
-        "odd-path",
-        "odd-path/day.typ",
-        "odd-path/day.frames",
-        "odd-path/day.path",
-        "odd-path/day.val",
-    )
+    folder!(rt, "day-length")?;
+    folder!(rt, "odd-both")?;
+    folder!(rt, "odd-path")
 }
 
 // A path that is longer than its buffer, of an even and of an odd length.
 fn long_paths(rt: &(impl Files + Print + Eprint)) -> io::Result<()> {
-    show(
-        rt,
-        "long-path",
-        "long-path/day.typ",
-        "long-path/day.frames",
-        "long-path/day.path",
-        "long-path/day.val",
-    )?;
-    show(
-        rt,
-        "longer-path",
-        "longer-path/day.typ",
-        "longer-path/day.frames",
-        "longer-path/day.path",
-        "longer-path/day.val",
-    )
+    folder!(rt, "long-path")?;
+    folder!(rt, "longer-path")
 }
 
 // A type file that is missing counts as empty. Of any other `find` says it to standard error and prints no line, so that `make`'s stands alone: to it such a file is empty, and an empty path leads to the whole frame.
 fn no_file(rt: &(impl Files + Print + Eprint)) -> io::Result<()> {
-    show(
-        rt,
-        "no-type",
-        "no-type/day.typ",
-        "no-type/day.frames",
-        "no-type/day.path",
-        "no-type/day.val",
-    )?;
-    show(
-        rt,
-        "no-day",
-        "no-day/day.typ",
-        "no-day/day.frames",
-        "no-day/day.path",
-        "no-day/day.val",
-    )?;
-    show(
-        rt,
-        "no-path",
-        "no-path/day.typ",
-        "no-path/day.frames",
-        "no-path/day.path",
-        "no-path/day.val",
-    )?;
-    show(
-        rt,
-        "no-value",
-        "no-value/day.typ",
-        "no-value/day.frames",
-        "no-value/day.path",
-        "no-value/day.val",
-    )
+    folder!(rt, "no-type")?;
+    folder!(rt, "no-day")?;
+    folder!(rt, "no-path")?;
+    folder!(rt, "no-value")
 }
 
 // All of them are.
 fn no_files(rt: &(impl Files + Print + Eprint)) -> io::Result<()> {
-    show(
-        rt,
-        "nothing",
-        "nothing/day.typ",
-        "nothing/day.frames",
-        "nothing/day.path",
-        "nothing/day.val",
-    )
+    folder!(rt, "nothing")
 }
 
 fn main(rt: HostRuntime) -> io::Result<()> {

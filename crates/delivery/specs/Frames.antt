@@ -1,5 +1,5 @@
 -- What `write_frame` knows at each of its answers: rows 1 to 7 and the table as `lower`, rows 15, 16, 21 and 22 as `write_shape`, and the frame's length by the table's width.
-use Rattle.std.specs.Prelude.{◌≡◌, List, ℕ, ◌+◌, ◌/◌, ◌<◌, ◌≤◌, length, get_or}
+use Rattle.std.specs.Prelude.{◌≡◌, List, ℕ, ◌+◌, ◌/◌, ◌<◌, ◌≤◌, length, get_or, Result, Ok, Err}
 use Rattle.std.proofs.Math.Path.{refl, ap}
 use Rattle.std.proofs.Common.{sym, ◌∙◌, arith, Fits}
 use Rattle.std.specs.Int.{w64}
@@ -13,16 +13,11 @@ use Rattle.model.specs.Operations.{framed}
 use Rattle.model.proofs.Laws.FrameFiles.{length_frame_file}
 use Rattle.reply.specs.declared.Refusal.{Refusal}
 use Rattle.reply.specs.declared.Refusal.TheVariants.{NoRoom}
-use Rattle.reply.specs.declared.Reply.TheVariants as reply
-use Rattle.types.specs.declared.TypeAnswer.{TypeAnswer}
-use Rattle.types.specs.declared.TypeAnswer.TheVariants.{Ok, Refused}
 use Rattle.types.specs.Trees.{tree}
 use Rattle.types.specs.Lows.{low}
 use Rattle.structural.specs.Forms as structural
 use Rattle.structural.proofs.Laws.Forms.{stands, standing_is}
 use Rattle.table.specs.Tabled.{Tabled}
-use Rattle.value.specs.declared.Checked.{Checked}
-use Rattle.value.specs.declared.Checked.TheVariants.{Next, Bad}
 use Rattle.value.specs.Check.{file_answer}
 use Rattle.told.specs.Forms as told
 use Rattle.told.specs.Widths.{Wide}
@@ -33,8 +28,8 @@ use Rattle.delivery.specs.Delivering.{Delivers, deliver_refusal, deliver_no_room
 use Rattle.delivery.specs.Values.{value_refused, value_read, value_valid}
 use Rattle.delivery.specs.Lowers.{lower_given, lowers}
 
-module _ {s E S W : List ℕ} {r : TypeAnswer} (p : Tabled s r E S W) where
-  pub frame_refused : (val : List ℕ) {O : List ℕ} {x : Refusal} → r ≡ Refused x → Delivers (framed after s val) O O (reply.Refused x)
+module _ {s E S W : List ℕ} {r : Result ℕ Refusal} (p : Tabled s r E S W) where
+  pub frame_refused : (val : List ℕ) {O : List ℕ} {x : Refusal} → r ≡ Err x → Delivers (framed after s val) O O (Err x)
   unfolding framed
   frame_refused val {O} {x} e = deliver_refusal (framed after s val) O x (rw (p.answer, e) refl)
 
@@ -54,12 +49,12 @@ module _ {s E S W : List ℕ} {r : TypeAnswer} (p : Tabled s r E S W) where
       pub width_fits : Fits w64 (get_or W 0 0 + 7)
       width_fits = omega (arith, width_small)
 
-    module _ (val : List ℕ) {c : Checked} (k : c ≡ file_answer (tree 32 s 0) val) where
-      pub frame_bad_value : {O : List ℕ} {x : Refusal} → c ≡ Bad x → Delivers (framed after s val) O O (reply.Refused x)
+    module _ (val : List ℕ) {c : Result (ℕ × ℕ) Refusal} (k : c ≡ file_answer (tree 32 s 0) val) where
+      pub frame_bad_value : {O : List ℕ} {x : Refusal} → c ≡ Err x → Delivers (framed after s val) O O (Err x)
       unfolding framed
       frame_bad_value {O} {x} h = deliver_refusal (framed after s val) O x (rw (lowers p e, value_refused (tree 32 s 0) val k h) refl)
 
-      module _ {i size : ℕ} (h : c ≡ Next i size) (long : 1024 ≤ length W) where
+      module _ {i size : ℕ} (h : c ≡ Ok (i, size)) (long : 1024 ≤ length W) where
         -- the value that the file says
         value : Value (tree 32 s 0)
         value = (value_read (tree 32 s 0) val k h).had
@@ -78,11 +73,11 @@ module _ {s E S W : List ℕ} {r : TypeAnswer} (p : Tabled s r E S W) where
         unfolding framed
         framed_is = rw (lowers p e, value_is) refl
 
-        pub frame_no_room : {O : List ℕ} → length O < (get_or W 0 0 + 7) / 8 → Delivers (framed after s val) O O (reply.Refused NoRoom)
+        pub frame_no_room : {O : List ℕ} → length O < (get_or W 0 0 + 7) / 8 → Delivers (framed after s val) O O (Err NoRoom)
         frame_no_room {O} l = deliver_no_room (framed after s val) O file framed_is (omega (arith, file_length))
 
         pub frame_ready : (O : List ℕ) → (get_or W 0 0 + 7) / 8 ≤ length O → Room (structural.standing 32 s 0) (told.standing 32 s val 0 0) O
         frame_ready O l = frame_room val (lower_given p e) value value_is (rw (← whole_width long) l)
 
-        pub frame_done : {O O' : List ℕ} {m : ℕ} → (get_or W 0 0 + 7) / 8 ≤ length O → Filed (structural.standing 32 s 0) (told.standing 32 s val 0 0) O O' m → Delivers (framed after s val) O O' (reply.Done m)
+        pub frame_done : {O O' : List ℕ} {m : ℕ} → (get_or W 0 0 + 7) / 8 ≤ length O → Filed (structural.standing 32 s 0) (told.standing 32 s val 0 0) O O' m → Delivers (framed after s val) O O' (Ok m)
         frame_done {O} {O'} {m} l w = deliver_result (framed after s val) O O' file m framed_is (omega (arith, file_length)) (frame_filed val (lower_given p e) value value_is w).1

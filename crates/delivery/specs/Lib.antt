@@ -11,3 +11,4 @@ pub mod Rooms
 pub mod Unframes
 pub mod Parts
 pub mod Days
+pub mod Tables

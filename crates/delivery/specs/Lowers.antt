@@ -1,5 +1,5 @@
 -- What `lower` knows at each of its answers, from rows 1 to 7 and the table.
-use Rattle.std.specs.Prelude.{◌≡◌, List, ℕ, ◌<◌, ◌≤◌, length, get_or}
+use Rattle.std.specs.Prelude.{◌≡◌, List, ℕ, ◌<◌, ◌≤◌, length, get_or, Result, Ok, Err}
 use Rattle.std.proofs.Math.Path.{refl}
 use Rattle.std.proofs.Common.{subst, arith}
 use Rattle.std.proofs.Math.Bool.{false}
@@ -12,9 +12,6 @@ use Rattle.model.proofs.Laws.Lowering.{small, lowers_not_large}
 use Rattle.model.proofs.Laws.Sizes.{length_type_records}
 use Rattle.reply.specs.declared.Refusal.{Refusal}
 use Rattle.reply.specs.declared.Refusal.TheVariants.{NoRoom}
-use Rattle.reply.specs.declared.Reply.TheVariants as reply
-use Rattle.types.specs.declared.TypeAnswer.{TypeAnswer}
-use Rattle.types.specs.declared.TypeAnswer.TheVariants.{Ok, Refused}
 use Rattle.types.specs.Trees.{tree}
 use Rattle.types.specs.Lows.{low}
 use Rattle.types.specs.Steps.{Given}
@@ -24,14 +21,14 @@ use Rattle.structural.specs.Forms.{Room}
 use Rattle.structural.specs.Writing.{Wrote}
 use Rattle.delivery.specs.Delivering.{Delivers, deliver_refusal, deliver_no_room, deliver_result}
 
-module _ {s E S W : List ℕ} {r : TypeAnswer} (p : Tabled s r E S W) where
-  pub lower_refused : {O : List ℕ} {x : Refusal} → r ≡ Refused x → Delivers (lowered s) O O (reply.Refused x)
+module _ {s E S W : List ℕ} {r : Result ℕ Refusal} (p : Tabled s r E S W) where
+  pub lower_refused : {O : List ℕ} {x : Refusal} → r ≡ Err x → Delivers (lowered s) O O (Err x)
   unfolding lowered
   lower_refused {O} {x} e = deliver_refusal (lowered s) O x (rw (p.answer, e) refl)
 
   module _ {n : ℕ} (e : r ≡ Ok n) where
     table : Table s E S W n
-    table = subst (λ (r : TypeAnswer). TableIf r s E S W) e p.table
+    table = subst (λ (r : Result ℕ Refusal). TableIf r s E S W) e p.table
 
     pub lower_given : Given 32 false s E 0
     lower_given = record { starts = accepted s n table.accepted; ends = table.ends }
@@ -55,11 +52,11 @@ module _ {s E S W : List ℕ} {r : TypeAnswer} (p : Tabled s r E S W) where
     unfolding lowered low
     lowered_is = rw lowers refl
 
-    pub lower_no_room : {O : List ℕ} → length O < get_or S 0 0 → Delivers (lowered s) O O (reply.Refused NoRoom)
+    pub lower_no_room : {O : List ℕ} → length O < get_or S 0 0 → Delivers (lowered s) O O (Err NoRoom)
     lower_no_room {O} l = deliver_no_room (lowered s) O (type_records (low 32 false s 0)) lowered_is (omega (arith, lowered_size))
 
     pub lower_room : (O : List ℕ) → get_or S 0 0 ≤ length O → Room (low 32 false s 0) O
     lower_room O l = omega (arith, lowered_size)
 
-    pub lower_done : {O O' : List ℕ} {k : ℕ} → get_or S 0 0 ≤ length O → Wrote (type_records (low 32 false s 0)) O O' k → Delivers (lowered s) O O' (reply.Done k)
+    pub lower_done : {O O' : List ℕ} {k : ℕ} → get_or S 0 0 ≤ length O → Wrote (type_records (low 32 false s 0)) O O' k → Delivers (lowered s) O O' (Ok k)
     lower_done {O} {O'} {k} l w = deliver_result (lowered s) O O' (type_records (low 32 false s 0)) k lowered_is (omega (arith, lowered_size)) w

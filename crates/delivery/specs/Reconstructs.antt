@@ -1,5 +1,5 @@
 -- What `reconstruct` knows at each of its answers: what the earlier reading gives (`Readings`), row 20, and the value file's length.
-use Rattle.std.specs.Prelude.{◌≡◌, Bool, List, ℕ, ◌*◌, ◌<◌, ◌≤◌}
+use Rattle.std.specs.Prelude.{⊤, ◌≡◌, Bool, List, ℕ, ◌*◌, ◌<◌, ◌≤◌, Option, Some, None, Result, Ok, Err}
 use Rattle.std.proofs.Math.Path.{refl, ap}
 use Rattle.std.proofs.Common.{sym, ◌∙◌, arith, Fits}
 use Rattle.std.proofs.Math.Bool.{true, false}
@@ -14,15 +14,8 @@ use Rattle.model.proofs.Laws.Spots.{no_surplus}
 use Rattle.model.proofs.Laws.ValueFiles.{length_value_file}
 use Rattle.reply.specs.declared.Refusal.{Refusal}
 use Rattle.reply.specs.declared.Refusal.TheVariants.{NotReconstructed, NoUnit, NoRoom}
-use Rattle.reply.specs.declared.Reply.TheVariants as reply
-use Rattle.types.specs.declared.TypeAnswer.{TypeAnswer}
-use Rattle.types.specs.declared.TypeAnswer.TheVariants.{Ok, Refused}
 use Rattle.types.specs.Table.{Checked}
 use Rattle.types.specs.Trees.{tree, type_in}
-use Rattle.rebuild.specs.declared.Records.{Records}
-use Rattle.rebuild.specs.declared.Records.TheVariants as records
-use Rattle.rebuild.specs.declared.ShapeAnswer.{ShapeAnswer}
-use Rattle.rebuild.specs.declared.ShapeAnswer.TheVariants as shapes
 use Rattle.rebuild.specs.ShapeRows.{ShapeTold}
 use Rattle.rebuild.specs.Reads.{value_records}
 use Rattle.rebuild.specs.Laws.Few.{few_records}
@@ -32,28 +25,28 @@ use Rattle.record.specs.Marks.{written}
 use Rattle.delivery.specs.Delivering.{Delivers, deliver_refusal, deliver_no_room, deliver_result}
 use Rattle.delivery.specs.Readings.{bad_type, type_given, bad_shape, shape, shape_short, no_value, Valued, value, reads}
 
-module _ {s E : List ℕ} {r : TypeAnswer} (c : Checked s r E) where
-  pub rebuild_bad_type : (sh : List ℕ) {O : List ℕ} {x : Refusal} → r ≡ Refused x → Delivers (reconstructed s sh) O O (reply.Refused x)
+module _ {s E : List ℕ} {r : Result ℕ Refusal} (c : Checked s r E) where
+  pub rebuild_bad_type : (sh : List ℕ) {O : List ℕ} {x : Refusal} → r ≡ Err x → Delivers (reconstructed s sh) O O (Err x)
   unfolding reconstructed
   rebuild_bad_type sh {O} {x} e = deliver_refusal (reconstructed s sh) O x (rw (bad_type c sh e) refl)
 
-  module _ {n : ℕ} (e : r ≡ Ok n) (sh : List ℕ) {a : ShapeAnswer} (told : ShapeTold sh a) where
-    pub rebuild_bad_shape : {O : List ℕ} {x : Refusal} → a ≡ shapes.Refused x → Delivers (reconstructed s sh) O O (reply.Refused x)
+  module _ {n : ℕ} (e : r ≡ Ok n) (sh : List ℕ) {a : Result ⊤ Refusal} (told : ShapeTold sh a) where
+    pub rebuild_bad_shape : {O : List ℕ} {x : Refusal} → a ≡ Err x → Delivers (reconstructed s sh) O O (Err x)
     unfolding reconstructed
     rebuild_bad_shape {O} {x} h = deliver_refusal (reconstructed s sh) O x (rw (bad_shape c e sh told h) refl)
 
-    module _ (h : a ≡ shapes.Ok) {v : Records} (k : v ≡ value_records (type_in s) sh) where
+    module _ (h : a ≡ (Ok tt)) {v : Option (ℕ × ℕ)} (k : v ≡ value_records (type_in s) sh) where
       -- row 10
-      pub rebuild_none : {O : List ℕ} → v ≡ records.Not → Delivers (reconstructed s sh) O O (reply.Refused NotReconstructed)
+      pub rebuild_none : {O : List ℕ} → v ≡ None → Delivers (reconstructed s sh) O O (Err NotReconstructed)
       unfolding reconstructed
       rebuild_none {O} q = deliver_refusal (reconstructed s sh) O NotReconstructed (rw (no_value c e sh told h k q) refl)
 
-      module _ {m j : ℕ} (q : v ≡ records.Of m j) where
+      module _ {m j : ℕ} (q : v ≡ Some (m, j)) where
         abbrev read : Valued c e sh told h m j
         read = value c e sh told h k q
 
         -- row 20
-        pub rebuild_no_unit : {O : List ℕ} → (j ≡ 0 → ⊥) → Delivers (reconstructed s sh) O O (reply.Refused NoUnit)
+        pub rebuild_no_unit : {O : List ℕ} → (j ≡ 0 → ⊥) → Delivers (reconstructed s sh) O O (Err NoUnit)
         unfolding reconstructed
         rebuild_no_unit {O} z = deliver_refusal (reconstructed s sh) O NoUnit (rw (reads c e sh told h k q, lacks (lacks_unit (tree 32 s 0) (shape c e sh told h).0) refl) refl)
           where
@@ -77,14 +70,14 @@ module _ {s E : List ℕ} {r : TypeAnswer} (c : Checked s r E) where
         stands : standing sh 32 s 0 0 ≡ some (encode (tree 32 s 0) read.value, length sh)
         stands = whole_given s E sh (shape c e sh told h).0 read.value (type_given c e) (shape c e sh told h).1 read.is
 
-        pub rebuild_no_room : {O : List ℕ} → j ≡ 0 → length O < m * 36 → Delivers (reconstructed s sh) O O (reply.Refused NoRoom)
+        pub rebuild_no_room : {O : List ℕ} → j ≡ 0 → length O < m * 36 → Delivers (reconstructed s sh) O O (Err NoRoom)
         rebuild_no_room {O} z l = deliver_no_room (reconstructed s sh) O file (rebuilt z) (omega (arith, file_length))
 
         pub rebuild_ready : (O : List ℕ) → m * 36 ≤ length O → Ready (standing sh 32 s 0 0) O
         unfolding value_file written
         rebuild_ready O l = record { recs = encode (tree 32 s 0) read.value; end = length sh; there = stands; room = omega (arith, file_length) }
 
-        pub rebuild_done : {O O' : List ℕ} {i : ℕ} → j ≡ 0 → m * 36 ≤ length O → Whole (standing sh 32 s 0 0) O O' i → Delivers (reconstructed s sh) O O' (reply.Done i)
+        pub rebuild_done : {O O' : List ℕ} {i : ℕ} → j ≡ 0 → m * 36 ≤ length O → Whole (standing sh 32 s 0 0) O O' i → Delivers (reconstructed s sh) O O' (Ok i)
         unfolding value_file written
         rebuild_done {O} {O'} {i} z l w =
             let same : encode (tree 32 s 0) read.value ≡ w.recs = ap (λ x. x.0) (some-injective _ _ (sym stands ∙ w.there)) in

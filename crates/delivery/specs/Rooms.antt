@@ -1,5 +1,5 @@
 -- What `room` knows at each of its answers: rows 1 to 7, the table's first size and first width, and the most records of a shape.
-use Rattle.std.specs.Prelude.{◌≡◌, false, List, ℕ, ◌≤◌, length, get_or}
+use Rattle.std.specs.Prelude.{◌≡◌, false, List, ℕ, ◌≤◌, length, get_or, Result, Ok, Err}
 use Rattle.std.proofs.Math.Path.{refl}
 use Rattle.std.proofs.Common.{ap, ◌∙◌, arith}
 use Rattle.model.specs.Structural.{type_records}
@@ -11,8 +11,6 @@ use Rattle.model.specs.Calls.{Room}
 use Rattle.model.proofs.Laws.Sizes.{length_type_records}
 use Rattle.reply.specs.declared.Refusal.{Refusal}
 use Rattle.reply.specs.Numbers.{refusal_number}
-use Rattle.types.specs.declared.TypeAnswer.{TypeAnswer}
-use Rattle.types.specs.declared.TypeAnswer.TheVariants.{Ok, Refused}
 use Rattle.types.specs.Trees.{tree}
 use Rattle.types.specs.Lows.{low}
 use Rattle.table.specs.Tabled.{Tabled}
@@ -20,8 +18,8 @@ use Rattle.room.specs.Counting.{Small}
 use Rattle.delivery.specs.Lowers.{lowers, lowers_small, lowered_size}
 use Rattle.delivery.specs.Frames.{whole_width}
 
-module _ {s E S W : List ℕ} {r : TypeAnswer} (p : Tabled s r E S W) where
-  pub room_refused : {x : Refusal} → r ≡ Refused x → Room s (refusal_number x) 0 0 0
+module _ {s E S W : List ℕ} {r : Result ℕ Refusal} (p : Tabled s r E S W) where
+  pub room_refused : {x : Refusal} → r ≡ Err x → Room s (refusal_number x) 0 0 0
   unfolding room told_room
   room_refused e = rw (p.answer, e) refl
 

@@ -1,5 +1,5 @@
 -- What `read_frame` knows at each of its answers: rows 1 to 7 and the table as `lower`, rows 11 and 12 and the number of the value's records.
-use Rattle.std.specs.Prelude.{◌≡◌, List, ℕ, ◌*◌, ◌<◌, ◌≤◌, length}
+use Rattle.std.specs.Prelude.{◌≡◌, List, ℕ, ◌*◌, ◌<◌, ◌≤◌, length, Result, Ok, Err}
 use Rattle.std.proofs.Math.Path.{refl, sym, ap}
 use Rattle.std.proofs.Common.{◌∙◌, arith, Fits}
 use Rattle.std.specs.Int.{w64}
@@ -11,16 +11,11 @@ use Rattle.model.specs.Operations.{unframed}
 use Rattle.model.proofs.Laws.ValueFiles.{length_value_file}
 use Rattle.reply.specs.declared.Refusal.{Refusal}
 use Rattle.reply.specs.declared.Refusal.TheVariants.{NoRoom}
-use Rattle.reply.specs.declared.Reply.TheVariants as reply
 use Rattle.reply.specs.Numbers.{refusal_number}
-use Rattle.types.specs.declared.TypeAnswer.{TypeAnswer}
-use Rattle.types.specs.declared.TypeAnswer.TheVariants.{Ok, Refused}
 use Rattle.types.specs.Trees.{tree, type_in}
 use Rattle.structural.specs.Forms as structural
 use Rattle.table.specs.Tabled.{Tabled}
 use Rattle.bits.specs.Bits.{Inside}
-use Rattle.accept.specs.declared.Accepted.{Accepted}
-use Rattle.accept.specs.declared.Accepted.TheVariants as accepts
 use Rattle.accept.specs.Answers.{Lowered, accepted, outcome_of}
 use Rattle.accept.specs.Laws.Whole.{few_value}
 use Rattle.unframe.specs.Forms.{standing, Ready, Placed}
@@ -30,8 +25,8 @@ use Rattle.delivery.specs.Values.{was_refused, was_done}
 use Rattle.delivery.specs.Lowers.{lower_given, lowers}
 use Rattle.delivery.specs.Frames.{frame_wide}
 
-module _ {s E S W : List ℕ} {r : TypeAnswer} (p : Tabled s r E S W) where
-  pub unframe_refused : (fr : List ℕ) {O : List ℕ} {x : Refusal} → r ≡ Refused x → Delivers (unframed after s fr) O O (reply.Refused x)
+module _ {s E S W : List ℕ} {r : Result ℕ Refusal} (p : Tabled s r E S W) where
+  pub unframe_refused : (fr : List ℕ) {O : List ℕ} {x : Refusal} → r ≡ Err x → Delivers (unframed after s fr) O O (Err x)
   unfolding unframed
   unframe_refused fr {O} {x} e = deliver_refusal (unframed after s fr) O x (rw (p.answer, e) refl)
 
@@ -43,19 +38,19 @@ module _ {s E S W : List ℕ} {r : TypeAnswer} (p : Tabled s r E S W) where
     abbrev count : Value (tree 32 s 0) → ℕ
     count v = length (encode (tree 32 s 0) v)
 
-    module _ (fr : List ℕ) (c : Accepted) (k : outcome_of c ≡ accepted (type_in s) fr) where
+    module _ (fr : List ℕ) (c : Result ℕ Refusal) (k : outcome_of c ≡ accepted (type_in s) fr) where
       answers : (unframe after (tree 32 s 0) fr >>= λ v. done (count v)) ≡ outcome_of c
       unfolding accepted type_in
       answers = sym k
 
       -- rows 11 and 12
-      pub unframe_bad_frame : {O : List ℕ} {x : Refusal} → c ≡ accepts.Refused x → Delivers (unframed after s fr) O O (reply.Refused x)
+      pub unframe_bad_frame : {O : List ℕ} {x : Refusal} → c ≡ Err x → Delivers (unframed after s fr) O O (Err x)
       unfolding unframed
       unframe_bad_frame {O} {x} h =
           let q = was_refused count (unframe after (tree 32 s 0) fr) (refusal_number x) (answers ∙ ap outcome_of h) in
           deliver_refusal (unframed after s fr) O x (rw (lowers p e, q) refl)
 
-      module _ {m : ℕ} (h : c ≡ accepts.Records m) (long : 1024 ≤ length W) where
+      module _ {m : ℕ} (h : c ≡ Ok m) (long : 1024 ≤ length W) where
         -- the value whose frame it is
         value : Value (tree 32 s 0)
         value = (was_done count (unframe after (tree 32 s 0) fr) m (answers ∙ ap outcome_of h)).had
@@ -82,7 +77,7 @@ module _ {s E S W : List ℕ} {r : TypeAnswer} (p : Tabled s r E S W) where
         unfolding type_in
         unframe_fits = let (l, f) = read (tree 32 s 0) fr value value_is in omega (arith, counted, few_value (lower_given p e) (frame_wide p e long) unframe_lowers fr l value f)
 
-        pub unframe_no_room : {O : List ℕ} → length O < m * 36 → Delivers (unframed after s fr) O O (reply.Refused NoRoom)
+        pub unframe_no_room : {O : List ℕ} → length O < m * 36 → Delivers (unframed after s fr) O O (Err NoRoom)
         unframe_no_room {O} l = deliver_no_room (unframed after s fr) O file unframed_is (omega (arith, file_length))
 
         pub unframe_inside : Inside fr 0 (width (structural.standing 32 s 0))
@@ -91,5 +86,5 @@ module _ {s E S W : List ℕ} {r : TypeAnswer} (p : Tabled s r E S W) where
         pub unframe_ready : (O : List ℕ) → m * 36 ≤ length O → Ready (standing 32 s 0 fr 0) O
         unframe_ready O l = whole_ready s E fr value (lower_given p e) value_is (omega (arith, file_length))
 
-        pub unframe_done : {O O' : List ℕ} {i : ℕ} → m * 36 ≤ length O → Placed (standing 32 s 0 fr 0) O O' i → Delivers (unframed after s fr) O O' (reply.Done i)
+        pub unframe_done : {O O' : List ℕ} {i : ℕ} → m * 36 ≤ length O → Placed (standing 32 s 0 fr 0) O O' i → Delivers (unframed after s fr) O O' (Ok i)
         unframe_done {O} {O'} {i} l w = deliver_result (unframed after s fr) O O' file i unframed_is (omega (arith, file_length)) (whole_placed s E fr value (lower_given p e) value_is w)

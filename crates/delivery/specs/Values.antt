@@ -1,5 +1,5 @@
 -- What the check of a value file tells the entries: the value that it says, with the length of its shape, or the row that refuses it.
-use Rattle.std.specs.Prelude.{◌≡◌, refl, not, ◌||◌, List, [], ℕ, ◌%◌, eqb, length}
+use Rattle.std.specs.Prelude.{◌≡◌, refl, not, ◌||◌, List, [], ℕ, ◌%◌, eqb, length, Result, Ok, Err}
 use Rattle.std.proofs.Common.{sym, ap, ◌∙◌, arith}
 use Rattle.model.specs.Numbers.{value_length, not_one_value}
 use Rattle.model.specs.Outcome.{Outcome, done, refused, ◌>>=◌, all_read}
@@ -12,8 +12,6 @@ use Rattle.model.proofs.Laws.ValueFiles.{parse_sound}
 use Rattle.reply.specs.declared.Refusal.{Refusal}
 use Rattle.reply.specs.Numbers.{refusal_number}
 use Rattle.table.specs.Facts.{cut}
-use Rattle.value.specs.declared.Checked.{Checked}
-use Rattle.value.specs.declared.Checked.TheVariants.{Next, Bad}
 use Rattle.value.specs.Check.{file_answer}
 use Rattle.value.specs.Model.{rows, outcome_of, value_of_is}
 
@@ -45,7 +43,7 @@ module _ {A : Type 0} (f : A → ℕ) where
   was_done (done x) n h = record { had = x; is = refl; told = ap result h }
   was_done (refused m) n h = let z = ap accepts h in absurd (omega arith)
 
-module _ (t : Ty) (val : List ℕ) {c : Checked} (k : c ≡ file_answer t val) where
+module _ (t : Ty) (val : List ℕ) {c : Result (ℕ × ℕ) Refusal} (k : c ≡ file_answer t val) where
   abbrev cut_length : Value t → ℕ
   cut_length v = cut (length (shape_file (inject t v)))
 
@@ -54,11 +52,11 @@ module _ (t : Ty) (val : List ℕ) {c : Checked} (k : c ≡ file_answer t val) w
   answers = value_of_is t val ∙ ap outcome_of (sym k)
 
   -- rows 15, 16, 21 and 22
-  pub value_refused : {x : Refusal} → c ≡ Bad x → value_of t val ≡ refused (refusal_number x)
+  pub value_refused : {x : Refusal} → c ≡ Err x → value_of t val ≡ refused (refusal_number x)
   value_refused {x} h = was_refused cut_length (value_of t val) (refusal_number x) (answers ∙ ap outcome_of h)
 
   -- the value that the file says
-  pub value_read : {i size : ℕ} → c ≡ Next i size → Had cut_length (value_of t val) size
+  pub value_read : {i size : ℕ} → c ≡ Ok (i, size) → Had cut_length (value_of t val) size
   value_read {i} {size} h = was_done cut_length (value_of t val) size (answers ∙ ap outcome_of h)
 
 -- what a value file says is valid

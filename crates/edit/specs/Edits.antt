@@ -1,6 +1,6 @@
 -- What `edit_part` knows at each of its answers: the value and the part as `Opened` tells them, and the new value that the check of its file tells.
 -- The new value's bits, written where the part begins, make the old frame the frame of the whole with the part replaced.
-use Rattle.std.specs.Prelude.{◌≡◌, refl, List, ◌++◌, ℕ, ◌+◌, ◌/◌, ◌<◌, length, get_or}
+use Rattle.std.specs.Prelude.{◌≡◌, refl, List, ◌++◌, ℕ, ◌+◌, ◌/◌, ◌<◌, length, get_or, Result, Ok, Err}
 use Rattle.std.proofs.Math.Path.{sym, ap, ap₂, subst}
 use Rattle.std.proofs.Common.{◌∙◌}
 use Rattle.std.proofs.Math.Option.{some}
@@ -20,44 +20,38 @@ use Rattle.model.proofs.Laws.FrameFiles.{length_frame, length_frame_file, bytes_
 use Rattle.model.proofs.Laws.Operations.{there, replaced_file, edited_bits, framed_is}
 use Rattle.model.proofs.Laws.Demands.{edit_in_place}
 use Rattle.reply.specs.declared.Refusal.{Refusal}
-use Rattle.reply.specs.declared.Reply.TheVariants as reply
 use Rattle.types.specs.Trees.{tree, type_in}
 use Rattle.bits.specs.Bits.{Wrote}
 use Rattle.bits.specs.Laws.Integers.{bytes_each}
-use Rattle.value.specs.declared.Checked.{Checked}
-use Rattle.value.specs.declared.Checked.TheVariants.{Next, Bad}
 use Rattle.value.specs.Check.{file_answer}
 use Rattle.told.specs.Forms as told
 use Rattle.told.specs.Laws.Whole.{whole_told}
 use Rattle.told.specs.Widths.{Wide}
 use Rattle.frame.specs.Forms.{frame_at, Fitted, Framed}
 use Rattle.frame.proofs.Laws.Told.{shape_fitted, shape_framed}
-use Rattle.accept.specs.declared.Accepted.{Accepted}
-use Rattle.accept.specs.declared.Accepted.TheVariants as accepts
 use Rattle.accept.specs.Answers.{Lowered, accepted, outcome_of}
 use Rattle.delivery.specs.Delivering.{Delivers, deliver_refusal}
 use Rattle.delivery.specs.Values.{value_refused, value_read, value_valid}
-use Rattle.part.specs.declared.Target.{Target}
-use Rattle.part.specs.declared.Target.TheVariants as target
+use Rattle.part.specs.declared.Spot.{Spot}
 use Rattle.part.specs.Forms.{found_in}
 use Rattle.part.specs.Laws.Holds.{holding_type, holding_inside}
 use Rattle.edit.specs.Opened.{Opened, frame_refused, Arrived, lies, path_refused}
 
 -- rows 11 and 12
-module _ {s : List ℕ} (l : Lowered s) (fr : List ℕ) (c : Accepted) (k : outcome_of c ≡ accepted (type_in s) fr) (path val : List ℕ) where
-  pub edit_bad_frame : {x : Refusal} → c ≡ accepts.Refused x → Delivers (edited after s fr path val) fr fr (reply.Refused x)
+module _ {s : List ℕ} (l : Lowered s) (fr : List ℕ) (c : Result ℕ Refusal) (k : outcome_of c ≡ accepted (type_in s) fr) (path val : List ℕ) where
+  pub edit_bad_frame : {x : Refusal} → c ≡ Err x → Delivers (edited after s fr path val) fr fr (Err x)
   unfolding edited
   edit_bad_frame {x} h = let (e, f) = frame_refused l fr c k h in deliver_refusal (edited after s fr path val) fr x (rw (e, f) refl)
 
 -- rows 13 and 14
-module _ {s E W fr : List ℕ} (w : Wide s E W) (o : Opened s E fr) (path val : List ℕ) {r : Target} (e : r ≡ found_in s E W fr path) where
-  pub edit_bad_path : {x : Refusal} → r ≡ target.Refused x → Delivers (edited after s fr path val) fr fr (reply.Refused x)
+module _ {s E W fr : List ℕ} (w : Wide s E W) (o : Opened s E fr) (path val : List ℕ) {r : Result Spot Refusal} (e : r ≡ found_in s E W fr path) where
+  pub edit_bad_path : {x : Refusal} → r ≡ Err x → Delivers (edited after s fr path val) fr fr (Err x)
   unfolding edited
   edit_bad_path {x} h =
       deliver_refusal (edited after s fr path val) fr x
       (rw (o.lowers, o.reads) (path_refused w o path e (λ f. value_of f.type val >>= λ v. framed after s (replaced f (value_file (tree 32 s 0) o.value) val)) h))
 
-module _ {s E fr path : List ℕ} {o : Opened s E fr} {p d b : ℕ} (a : Arrived s E fr path o p d b) (val : List ℕ) {c : Checked} (k : c ≡ file_answer (tree d s p) val) where
+module _ {s E fr path : List ℕ} {o : Opened s E fr} {p d b : ℕ} (a : Arrived s E fr path o p d b) (val : List ℕ) {c : Result (ℕ × ℕ) Refusal} (k : c ≡ file_answer (tree d s p) val) where
   abbrev own : Ty
   own = a.place.type
 
@@ -66,11 +60,11 @@ module _ {s E fr path : List ℕ} {o : Opened s E fr} {p d b : ℕ} (a : Arrived
   checked = k ∙ ap (λ t. file_answer t val) a.holding.same
 
   -- rows 15, 16, 21 and 22
-  pub edit_bad_value : {x : Refusal} → c ≡ Bad x → Delivers (edited after s fr path val) fr fr (reply.Refused x)
+  pub edit_bad_value : {x : Refusal} → c ≡ Err x → Delivers (edited after s fr path val) fr fr (Err x)
   unfolding edited
   edit_bad_value {x} h = deliver_refusal (edited after s fr path val) fr x (rw (o.lowers, o.reads, a.even, a.stands.leads, value_refused own val checked h) refl)
 
-  module _ {i size : ℕ} (h : c ≡ Next i size) where
+  module _ {i size : ℕ} (h : c ≡ Ok (i, size)) where
     -- the value that the file says
     value : Value own
     value = (value_read own val checked h).had
@@ -129,5 +123,5 @@ module _ {s E fr path : List ℕ} {o : Opened s E fr} {p d b : ℕ} (a : Arrived
         result_is : edited after s fr path val ≡ done fr'
         result_is = edited_is ∙ ap done (sym (bits_of_injective fr' result (bytes_each fr' nb) (bytes_frame_file after (tree 32 s 0) new) same_length same_bits))
 
-        pub edit_done : Delivers (edited after s fr path val) fr fr' (reply.Done (length fr'))
+        pub edit_done : Delivers (edited after s fr path val) fr fr' (Ok (length fr'))
         edit_done = ap (λ n. (0, n, fr')) wrote.same ∙ sym (edit_in_place after s fr path val (bytes_each s sb) (bytes_each fr fb) (bytes_each val vb) fr' result_is)

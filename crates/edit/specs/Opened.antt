@@ -1,7 +1,7 @@
 -- What `accept` and `find_part` tell the operations on a part: the value whose frame was accepted and the part that the path leads to, or the row that refuses.
 use Rattle.std.proofs.Math.Path.{◌≡◌, refl, sym, ap}
 use Rattle.std.proofs.Common.{◌∙◌, arith}
-use Rattle.std.specs.Prelude.{Bool, true, false, not, List, map, ℕ, ◌%◌, ◌≤◌, ◌<◌, eqb, length, get_or}
+use Rattle.std.specs.Prelude.{Bool, true, false, not, List, map, ℕ, ◌%◌, ◌≤◌, ◌<◌, eqb, length, get_or, Option as Optional, Some, None, Result, Ok, Err}
 use Rattle.std.proofs.Math.Option.{Option, none, some}
 use Rattle.std.proofs.Math.Nat.{zero-add}
 use Rattle.model.specs.Numbers.{path_odd, no_such_part}
@@ -27,16 +27,11 @@ use Rattle.types.specs.Steps.{Given}
 use Rattle.bits.specs.Laws.Integers.{bytes_each}
 use Rattle.told.specs.Widths.{Wide}
 use Rattle.rebuild.specs.Forms.{most_records}
-use Rattle.accept.specs.declared.Accepted.{Accepted}
-use Rattle.accept.specs.declared.Accepted.TheVariants as accepts
 use Rattle.accept.specs.Answers.{Lowered, accepted, outcome_of}
 use Rattle.accept.specs.Laws.Whole.{few_value}
 use Rattle.unframe.specs.Laws.Whole.{read}
 use Rattle.delivery.specs.Values.{was_refused, was_done}
-use Rattle.part.specs.declared.Place.{Place}
-use Rattle.part.specs.declared.Place.TheVariants.{At, Nowhere}
-use Rattle.part.specs.declared.Target.{Target}
-use Rattle.part.specs.declared.Target.TheVariants as target
+use Rattle.part.specs.declared.Spot.{Spot}
 use Rattle.part.specs.Forms.{follow, led_to, found_in}
 use Rattle.part.specs.Forms as forms
 use Rattle.part.specs.Holds.{Holding, Holds, Reached, Leads}
@@ -60,7 +55,7 @@ pub record Opened (s E fr : List ℕ) : Type 0 where
 pub opened_holds : {s E fr : List ℕ} → Opened s E fr → Holds 32 s E 0 fr 0
 opened_holds {s} o = record { type = tree 32 s 0; value = o.value; holding = o.holding }
 
-module _ {s : List ℕ} (l : Lowered s) (fr : List ℕ) (c : Accepted) (k : outcome_of c ≡ accepted (type_in s) fr) where
+module _ {s : List ℕ} (l : Lowered s) (fr : List ℕ) (c : Result ℕ Refusal) (k : outcome_of c ≡ accepted (type_in s) fr) where
   abbrev count : Value (tree 32 s 0) → ℕ
   count v = length (encode (tree 32 s 0) v)
 
@@ -73,7 +68,7 @@ module _ {s : List ℕ} (l : Lowered s) (fr : List ℕ) (c : Accepted) (k : outc
   lowers = l.lowers
 
   -- rows 11 and 12
-  pub frame_refused : {x : Refusal} → c ≡ accepts.Refused x → (lowering s ≡ done (tree 32 s 0)) × (unframed after s fr ≡ refused (refusal_number x))
+  pub frame_refused : {x : Refusal} → c ≡ Err x → (lowering s ≡ done (tree 32 s 0)) × (unframed after s fr ≡ refused (refusal_number x))
   unfolding unframed
   frame_refused {x} h = (lowers, rw (lowers, was_refused count (unframe after (tree 32 s 0) fr) (refusal_number x) (answers ∙ ap outcome_of h)) refl)
 
@@ -97,7 +92,7 @@ module _ {s : List ℕ} (l : Lowered s) (fr : List ℕ) (c : Accepted) (k : outc
         }
 
     -- no row holds
-    pub opened : {m : ℕ} → c ≡ accepts.Records m → Opened s E fr
+    pub opened : {m : ℕ} → c ≡ Ok m → Opened s E fr
     opened {m} h = let had = was_done count (unframe after (tree 32 s 0) fr) m (answers ∙ ap outcome_of h) in opened_value had.had had.is
 
 -- A PART
@@ -127,36 +122,32 @@ lies {s} {o = o} a = part_there after (tree 32 s 0) a.picks o.value a.place o.va
 
 -- where no place was found there is no part, in the value's file neither
 module _ {s E fr : List ℕ} (o : Opened s E fr) (q : List ℕ) where
-  nowhere : (pl : Place) → Leads s E (part after (tree 32 s 0) q o.value) 0 pl → (x : Refusal) → target.Refused x ≡ forms.target pl → (found (tree 32 s 0) q (value_file (tree 32 s 0) o.value) ≡ none) × (NoSuchPart ≡ x)
-  nowhere Nowhere l x j = (rw l at (found_leads after (tree 32 s 0) o.value q o.known.file.allowed o.valid), cc)
-  nowhere (At p d b) l x j = absurd (let z : ◌≡◌ {A = ℕ} 0 1 = cc in omega arith)
+  nowhere : (pl : Optional Spot) → Leads s E (part after (tree 32 s 0) q o.value) 0 pl → (x : Refusal) → Err x ≡ forms.target pl → (found (tree 32 s 0) q (value_file (tree 32 s 0) o.value) ≡ none) × (NoSuchPart ≡ x)
+  nowhere None l x j = (rw l at (found_leads after (tree 32 s 0) o.value q o.known.file.allowed o.valid), cc)
+  nowhere (Some y) l x j = absurd (let z : ◌≡◌ {A = ℕ} 0 1 = cc in omega arith)
 
 -- a place that was found is a part's
-somewhere : {s E : List ℕ} {X : Type 0} {u : Option (Part X)} (pl : Place) → Leads s E u 0 pl → (p d b : ℕ) → target.Part p d b ≡ forms.target pl → Reached s E u 0 p d b
-somewhere Nowhere l p d b j = absurd (let z : ◌≡◌ {A = ℕ} 0 1 = cc in omega arith)
-somewhere (At q e c) l p d b j =
-    let x : p ≡ q = cc in
-    let y : d ≡ e = cc in
-    let z : b ≡ c = cc in
-    rw (x, y, z) l
+somewhere : {s E : List ℕ} {X : Type 0} {u : Option (Part X)} (pl : Optional Spot) → Leads s E u 0 pl → (x : Spot) → Ok x ≡ forms.target pl → Reached s E u 0 x.at x.level x.bit
+somewhere None l x j = absurd (let z : ◌≡◌ {A = ℕ} 0 1 = cc in omega arith)
+somewhere (Some y) l x j = let z : x ≡ y = cc in rw z l
 
-module _ {s E W fr : List ℕ} (w : Wide s E W) (o : Opened s E fr) (path : List ℕ) {r : Target} (e : r ≡ found_in s E W fr path) where
+module _ {s E W fr : List ℕ} (w : Wide s E W) (o : Opened s E fr) (path : List ℕ) {r : Result Spot Refusal} (e : r ≡ found_in s E W fr path) where
   -- rows 13 and 14, whatever is done with the part
-  pub path_refused : (f : Found → Outcome (List ℕ)) {x : Refusal} → r ≡ target.Refused x → (steps path >>= λ q. or_refuse no_such_part (found (tree 32 s 0) q (value_file (tree 32 s 0) o.value)) >>= f) ≡ refused (refusal_number x)
+  pub path_refused : (f : Found → Outcome (List ℕ)) {x : Refusal} → r ≡ Err x → (steps path >>= λ q. or_refuse no_such_part (found (tree 32 s 0) q (value_file (tree 32 s 0) o.value)) >>= f) ≡ refused (refusal_number x)
   unfolding found_in
   path_refused f {x} h = go (steps path) refl (sym h ∙ e)
     where
-      go : (u : Outcome (List ℕ)) → steps path ≡ u → target.Refused x ≡ led_to u (follow 32 s E W 0 fr 0) → (u >>= λ q. or_refuse no_such_part (found (tree 32 s 0) q (value_file (tree 32 s 0) o.value)) >>= f) ≡ refused (refusal_number x)
+      go : (u : Outcome (List ℕ)) → steps path ≡ u → Err x ≡ led_to u (follow 32 s E W 0 fr 0) → (u >>= λ q. or_refuse no_such_part (found (tree 32 s 0) q (value_file (tree 32 s 0) o.value)) >>= f) ≡ refused (refusal_number x)
       go (refused n) i j = let z : PathOdd ≡ x = cc in ap refused (steps_refused path n i ∙ ap refusal_number z)
       go (done q) i j = let z = nowhere o q (follow 32 s E W 0 fr 0 q) (follow_leads w q o.holding) x j in rw z.0 (ap (λ y. refused (refusal_number y)) z.1)
 
-  pub arrived : {p d b : ℕ} → r ≡ target.Part p d b → Arrived s E fr path o p d b
+  pub arrived : {x : Spot} → r ≡ Ok x → Arrived s E fr path o x.at x.level x.bit
   unfolding found_in
-  arrived {p} {d} {b} h = go (steps path) refl (sym h ∙ e)
+  arrived {x} h = go (steps path) refl (sym h ∙ e)
     where
-      go : (u : Outcome (List ℕ)) → steps path ≡ u → target.Part p d b ≡ led_to u (follow 32 s E W 0 fr 0) → Arrived s E fr path o p d b
+      go : (u : Outcome (List ℕ)) → steps path ≡ u → Ok x ≡ led_to u (follow 32 s E W 0 fr 0) → Arrived s E fr path o x.at x.level x.bit
       go (refused n) i j = absurd (let z : ◌≡◌ {A = ℕ} 0 1 = cc in omega arith)
-      go (done q) i j = let r = somewhere (follow 32 s E W 0 fr 0 q) (follow_leads w q o.holding) p d b j in
+      go (done q) i j = let r = somewhere (follow 32 s E W 0 fr 0 q) (follow_leads w q o.holding) x j in
           record {
             picks = q;
             even = i;

@@ -1,5 +1,5 @@
 -- What `read_part` knows at each of its answers: the value and the part as `Opened` tells them, and the number of the part's records, which are some of the whole's.
-use Rattle.std.specs.Prelude.{◌≡◌, refl, List, ◌++◌, ℕ, ◌+◌, ◌*◌, ◌≤◌, ◌<◌, length}
+use Rattle.std.specs.Prelude.{◌≡◌, refl, List, ◌++◌, ℕ, ◌+◌, ◌*◌, ◌≤◌, ◌<◌, length, Result, Ok, Err}
 use Rattle.std.proofs.Common.{sym, ap, subst, ◌∙◌, arith, Fits, length-append}
 use Rattle.std.proofs.Math.Option.{some, some-injective}
 use Rattle.std.specs.Int.{w64}
@@ -12,33 +12,29 @@ use Rattle.model.proofs.Laws.ValueFiles.{length_value_file}
 use Rattle.model.proofs.Laws.Operations.{part_file}
 use Rattle.reply.specs.declared.Refusal.{Refusal}
 use Rattle.reply.specs.declared.Refusal.TheVariants.{NoRoom}
-use Rattle.reply.specs.declared.Reply.TheVariants as reply
 use Rattle.types.specs.Trees.{tree, type_in}
 use Rattle.structural.specs.Writing.{Wrote}
 use Rattle.told.specs.Widths.{Wide}
 use Rattle.rebuild.specs.Forms.{most_records}
 use Rattle.record.specs.Marks.{written}
-use Rattle.accept.specs.declared.Accepted.{Accepted}
-use Rattle.accept.specs.declared.Accepted.TheVariants as accepts
 use Rattle.accept.specs.Forms.{seen}
 use Rattle.accept.specs.Answers.{Lowered, accepted, outcome_of, Counted}
 use Rattle.unframe.specs.Forms.{standing, Ready, Placed}
 use Rattle.delivery.specs.Delivering.{Delivers, deliver_refusal, deliver_no_room, deliver_result}
-use Rattle.part.specs.declared.Target.{Target}
-use Rattle.part.specs.declared.Target.TheVariants as target
+use Rattle.part.specs.declared.Spot.{Spot}
 use Rattle.part.specs.Forms.{found_in}
 use Rattle.part.specs.Laws.Holds.{holding_seen, holding_standing}
 use Rattle.edit.specs.Opened.{Opened, frame_refused, Arrived, lies, path_refused}
 
 -- rows 11 and 12
-module _ {s : List ℕ} (l : Lowered s) (fr : List ℕ) (c : Accepted) (k : outcome_of c ≡ accepted (type_in s) fr) (path : List ℕ) where
-  pub read_bad_frame : {O : List ℕ} {x : Refusal} → c ≡ accepts.Refused x → Delivers (part_read after s fr path) O O (reply.Refused x)
+module _ {s : List ℕ} (l : Lowered s) (fr : List ℕ) (c : Result ℕ Refusal) (k : outcome_of c ≡ accepted (type_in s) fr) (path : List ℕ) where
+  pub read_bad_frame : {O : List ℕ} {x : Refusal} → c ≡ Err x → Delivers (part_read after s fr path) O O (Err x)
   unfolding part_read
   read_bad_frame {O} {x} h = let (e, f) = frame_refused l fr c k h in deliver_refusal (part_read after s fr path) O x (rw (e, f) refl)
 
 -- rows 13 and 14
-module _ {s E W fr : List ℕ} (w : Wide s E W) (o : Opened s E fr) (path : List ℕ) {r : Target} (e : r ≡ found_in s E W fr path) where
-  pub read_bad_path : {O : List ℕ} {x : Refusal} → r ≡ target.Refused x → Delivers (part_read after s fr path) O O (reply.Refused x)
+module _ {s E W fr : List ℕ} (w : Wide s E W) (o : Opened s E fr) (path : List ℕ) {r : Result Spot Refusal} (e : r ≡ found_in s E W fr path) where
+  pub read_bad_path : {O : List ℕ} {x : Refusal} → r ≡ Err x → Delivers (part_read after s fr path) O O (Err x)
   unfolding part_read
   read_bad_path {O} {x} h = deliver_refusal (part_read after s fr path) O x (rw (o.lowers, o.reads) (path_refused w o path e (λ f. done (part_records f (value_file (tree 32 s 0) o.value))) h))
 
@@ -74,14 +70,14 @@ module _ {s E fr path : List ℕ} {o : Opened s E fr} {p d b : ℕ} (a : Arrived
     pub part_fits : Fits w64 (n * 36)
     part_fits = omega (arith, counted, few)
 
-    pub read_no_room : {O : List ℕ} → length O < n * 36 → Delivers (part_read after s fr path) O O (reply.Refused NoRoom)
+    pub read_no_room : {O : List ℕ} → length O < n * 36 → Delivers (part_read after s fr path) O O (Err NoRoom)
     read_no_room {O} l = deliver_no_room (part_read after s fr path) O file read_is (omega (arith, file_length))
 
     pub read_ready : (O : List ℕ) → n * 36 ≤ length O → Ready (standing d s p fr b) O
     unfolding value_file written
     read_ready O l = record { recs = encode a.place.type a.place.value; there = holding_standing a.holding; room = omega (arith, file_length) }
 
-    pub read_done : {O O' : List ℕ} {i : ℕ} → n * 36 ≤ length O → Placed (standing d s p fr b) O O' i → Delivers (part_read after s fr path) O O' (reply.Done i)
+    pub read_done : {O O' : List ℕ} {i : ℕ} → n * 36 ≤ length O → Placed (standing d s p fr b) O O' i → Delivers (part_read after s fr path) O O' (Ok i)
     unfolding value_file written
     read_done {O} {O'} {i} l w =
         let e = some-injective _ _ (sym w.there ∙ holding_standing a.holding) in

@@ -12,6 +12,7 @@ use std::rt::Files;
 use std::{fs, io};
 
 // Reads until the buffer is full or the reader ends, and answers how many bytes it put to the front of the buffer. They are the next that the reader had.
+// Each read says its own number of bytes: no iterator goes over them, and the library's `read_exact` fails where the reader ends before.
 pub fn fill<R: Read>(reader: &mut R, buf: &mut [u8]) -> io::Result<usize>
     ensures bound { ReadsAtMost result buf.new }
     ensures len { length buf.new ≡ length buf.old }
@@ -29,14 +30,18 @@ pub fn fill<R: Read>(reader: &mut R, buf: &mut [u8]) -> io::Result<usize>
     Ok(done)
 }
 
+// As `read_file`, but that it tells a failure.
+fn try_read<R: Files>(rt: &R, path: &str, buf: &mut [u8]) -> io::Result<usize>
+    ensures { ReadsAtMost result buf.new }
+{
+    fill(&mut File::open(rt, path)?, buf)
+}
+
 // Reads the file of that name to the front of the buffer, and answers how many bytes; 0 where it cannot be opened or read.
 pub fn read_file<R: Files>(rt: &R, path: &str, buf: &mut [u8]) -> usize
     ensures { IsPrefixLen result buf.new }
 {
-    match File::open(rt, path) {
-        Ok(mut file) => fill(&mut file, buf).unwrap_or(0),
-        Err(_) => 0,
-    }
+    try_read(rt, path, buf).unwrap_or(0)
 }
 
 // How many bytes a reader still has, but for multiples of 4. A read that fails counts as its end.
@@ -55,20 +60,23 @@ fn left_over<R: Read>(reader: &mut R) -> usize
     over
 }
 
+// As `read_records`, but that it tells a failure.
+fn try_records<R: Files>(rt: &R, path: &str, buf: &mut [u8; 65540]) -> io::Result<usize>
+    ensures { ReadsAtMost result buf.new }
+{
+    let mut file = File::open(rt, path)?;
+    let n = fill(&mut file, buf)?;
+    if n < buf.len() {
+        return Ok(n);
+    }
+    Ok(65536 + left_over(&mut file))
+}
+
 // As `read_file`, to a buffer of 65,540 bytes. Of a longer file the front is there, and the answer is from 65,536 to 65,539: the file's length, but for multiples of 4.
 pub fn read_records<R: Files>(rt: &R, path: &str, buf: &mut [u8; 65540]) -> usize
     ensures { IsPrefixLen result buf.new }
 {
-    match File::open(rt, path) {
-        Ok(mut file) => {
-            let n = fill(&mut file, buf).unwrap_or(0);
-            if n < 65540 {
-                return n;
-            }
-            65536 + left_over(&mut file)
-        }
-        Err(_) => 0,
-    }
+    try_records(rt, path, buf).unwrap_or(0)
 }
 
 // Writes these bytes to an open file, waits until they are on the disk, and closes it.

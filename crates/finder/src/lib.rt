@@ -5,14 +5,14 @@
 ghost use Rattle.std.specs.Prelude.{[], ◌≡◌, ◌+◌, ◌*◌, ◌^◌, ◌≤◌, ◌<◌, IfOk, IfSome, length, take};
 ghost use Rattle.model.specs.Calls.{Search};
 ghost use Rattle.day_files.specs.Pieces.{Frames};
-ghost use Rattle.reply.specs.Numbers.{found_number, found_at};
+ghost use Rattle.reply.specs.Numbers.{number_of, found_at};
 ghost use Rattle.structural.specs.Writing.{Wrote};
 ghost use Rattle.io.specs.Counts.{IsPrefixLen};
 ghost use Rattle.finder.specs.Says.{said, Tells, GoesOn, Sized, ReadOn, Answers};
 
 use files::{fill, read_file, read_records};
 use niegluk::{room, search};
-use reply::{Found, RoomReply};
+use reply::Refusal;
 use std::fs::File;
 use std::io;
 use std::io::{ErrorKind, Read};
@@ -31,20 +31,20 @@ const MOST_FRAMES: usize = 1 << 63;
 // What is found up to the end of a piece, and the bytes of the piece.
 #[derive(Clone, Copy)]
 struct Further {
-    found: Found,
+    found: Result<Option<usize>, Refusal>,
     len: usize,
 }
 
 // Writes the line of what a search found over the front of `out`, and answers its length.
-pub fn say(found: Found, out: &mut [u8]) -> usize
+pub fn say(found: Result<Option<usize>, Refusal>, out: &mut [u8]) -> usize
     requires { 27 ≤ length out.old }
-    ensures wrote { Wrote (said (found_number found) (found_at found)) out.old out.new result }
+    ensures wrote { Wrote (said (number_of found) (found_at found)) out.old out.new result }
     ensures prefix_len { IsPrefixLen result out.new }
 {
     match found {
-        Found::At(i) => write_found(i, out),
-        Found::Nowhere => write_none(out),
-        Found::Refused(x) => write_refused(x, out),
+        Ok(Some(i)) => write_found(i, out),
+        Ok(None) => write_none(out),
+        Err(x) => write_refused(x, out),
     }
 }
 
@@ -64,19 +64,14 @@ pub fn go_on(
     path: &[u8],
     value: &[u8],
     before: usize,
-    so_far: Found,
-) -> Found
+    so_far: Result<Option<usize>, Refusal>,
+) -> Result<Option<usize>, Refusal>
     requires { before + length piece.now < 2 ^ 64 }
     ensures { GoesOn ty.now piece.now path.now value.now before so_far result }
 {
-    match search(ty, piece, path, value) {
-        Found::Refused(x) => Found::Refused(x),
-        Found::Nowhere => so_far,
-        Found::At(j) => match so_far {
-            Found::At(i) => Found::At(i),
-            Found::Nowhere => Found::At(before + j),
-            Found::Refused(_) => Found::At(before + j),
-        },
+    match search(ty, piece, path, value)? {
+        None => so_far,
+        Some(j) => Ok(so_far.unwrap_or(None).or(Some(before + j))),
     }
 }
 
@@ -84,10 +79,7 @@ pub fn go_on(
 fn frame_size(ty: &[u8]) -> usize
     ensures { Sized ty.now result }
 {
-    match room(ty) {
-        RoomReply::Done(told) => (told.bits + 7) / 8,
-        RoomReply::Refused(_) => 0,
-    }
+    room(ty).unwrap_or_default().bits.div_ceil(8)
 }
 
 // How many frames are read at a time: as many as `most` bytes hold, but one at least, and no more than a buffer of `len` bytes has room for.
@@ -95,13 +87,7 @@ fn frames_at_once(size: usize, most: usize, len: usize) -> usize
     requires { (1 ≤ size) × (size ≤ len) }
     ensures { (1 ≤ result) × (result * size ≤ len) }
 {
-    if most < size {
-        return 1;
-    }
-    if most < len {
-        return most / size;
-    }
-    len / size
+    (most.min(len) / size).max(1)
 }
 
 // Reads the next piece of a day file, as long as `piece` or what is left, and answers what is found up to its end.
@@ -111,7 +97,7 @@ fn read_on<R: Read>(
     path: &[u8],
     value: &[u8],
     before: usize,
-    so_far: Found,
+    so_far: Result<Option<usize>, Refusal>,
     piece: &mut [u8],
 ) -> io::Result<Further>
     requires { before < 2 ^ 63 }
@@ -131,24 +117,22 @@ fn search_open<R: Read>(
     path: &[u8],
     value: &[u8],
     count: usize,
-    first: Found,
+    first: Result<Option<usize>, Refusal>,
     piece: &mut [u8],
-) -> io::Result<Found>
+) -> io::Result<Result<Option<usize>, Refusal>>
     requires le_count { (1 ≤ count) × (count ≤ length piece.old) }
     requires frames { Frames ty.now count piece.old }
-    requires search { Search ty.now [] path.now value.now (found_number first) (found_at first) }
+    requires search { Search ty.now [] path.now value.now (number_of first) (found_at first) }
     ensures answers { IfOk result (Answers (R.remaining reader.old) (R.remaining reader.new) ty.now path.now value.now) }
-    ensures known { IfSome (R.remaining reader.old) (λ day. IfOk result (λ found. Search ty.now day path.now value.now (found_number found) (found_at found))) }
+    ensures known { IfSome (R.remaining reader.old) (λ day. IfOk result (λ found. Search ty.now day path.now value.now (number_of found) (found_at found))) }
 {
     let mut found = first;
-    let mut before = 0;
-    while before < MOST_FRAMES {
+    for before in (0..MOST_FRAMES).step_by(count) {
         let further = read_on(reader, ty, path, value, before, found, piece)?;
         found = further.found;
         if further.len != piece.len() {
             return Ok(found);
         }
-        before += count;
     }
     Err(io::Error::from(ErrorKind::FileTooLarge))
 }
@@ -161,7 +145,7 @@ fn search_file(
     path: &[u8],
     value: &[u8],
     most: usize,
-) -> io::Result<Found> {
+) -> io::Result<Result<Option<usize>, Refusal>> {
     let first = search(ty, b"", path, value);
     let size = frame_size(ty);
     if size == 0 {
@@ -182,7 +166,7 @@ fn value_buffer() -> [u8; 1048577]
 }
 
 // Prints the line of what a search found.
-fn print(rt: &impl Print, found: Found) -> io::Result<()> {
+fn print(rt: &impl Print, found: Result<Option<usize>, Refusal>) -> io::Result<()> {
     let mut out = [0u8; 27];
     let n = say(found, &mut out);
     rt.write_all(&out[..n])

@@ -17,15 +17,22 @@ fn show(rt: &(impl Files + Print), type_path: &str, value_path: &str) -> io::Res
     rt.write_all(&out[..k])
 }
 
+// What `show` does of the folder of that name.
+macro_rules! folder {
+    ($rt:expr, $name:literal) => {
+        show($rt, concat!($name, "/job.typ"), concat!($name, "/job.val"))
+    };
+}
+
 fn main(rt: HostRuntime) -> io::Result<()> {
-    show(&rt, "eight-hits/job.typ", "eight-hits/job.val")?;
-    show(&rt, "mistyped/job.typ", "mistyped/job.val")?;
-    show(&rt, "other-type/job.typ", "other-type/job.val")?;
-    show(&rt, "never/job.typ", "never/job.val")?;
-    show(&rt, "long-type/job.typ", "long-type/job.val")?;
-    show(&rt, "long-value/job.typ", "long-value/job.val")?;
-    show(&rt, "missing/job.typ", "missing/job.val")?;
-    show(&rt, "nothing/job.typ", "nothing/job.val")?;
-    show(&rt, "width-0/job.typ", "width-0/job.val")?;
-    show(&rt, "four-hits/job.typ", "four-hits/job.val")
+    folder!(&rt, "eight-hits")?;
+    folder!(&rt, "mistyped")?;
+    folder!(&rt, "other-type")?;
+    folder!(&rt, "never")?;
+    folder!(&rt, "long-type")?;
+    folder!(&rt, "long-value")?;
+    folder!(&rt, "missing")?;
+    folder!(&rt, "nothing")?;
+    folder!(&rt, "width-0")?;
+    folder!(&rt, "four-hits")
 }

@@ -1,4 +1,5 @@
 -- The steps of the writers, in the form in which the code's needs ask them.
+use Rattle.std.specs.Prelude.{Option, Some, None}
 use mathlib.Core.Path.{◌≡◌, refl, sym, ap, ◌∙◌}
 use mathlib.Core.Bool.{Bool, true, false}
 use mathlib.Core.List.{List, [], ◌∷◌, ◌++◌}
@@ -10,8 +11,6 @@ use mir.Syntax.{w64}
 use mir.Val.{Fits}
 use lib.ListN.{length, get_or, length-append, length-replicate}
 use Rattle.num.specs.declared.NonZeroPow2Usize.{NonZeroPow2Usize}
-use Rattle.num.specs.declared.Bound.{Bound}
-use Rattle.num.specs.declared.Bound.TheVariants as bounds
 use Rattle.num.specs.Powers.{half_bound}
 use Rattle.model.specs.Options.{map_o}
 use Rattle.model.specs.Bytes.{zeros}
@@ -30,7 +29,7 @@ use Rattle.told.specs.Forms as told
 use Rattle.told.specs.Laws.Lists.{block_share}
 use Rattle.told.specs.Laws.Rows.{after_is}
 use Rattle.told.specs.Widths.{Wide}
-use Rattle.frame.specs.Forms.{Bits, and_then, frame_at, row, tags, chosen, block, listed, Fitted, Framed, Tagged}
+use Rattle.frame.specs.Forms.{and_then, frame_at, row, tags, chosen, block, listed, Fitted, Framed, Tagged}
 use Rattle.frame.proofs.Laws.Told.{frame_width}
 use Rattle.frame.proofs.Laws.Lists.{tag_true, block_zeros, block_row, list_block, Halved, list_halved, share_one}
 use Rattle.frame.proofs.Laws.Writing.{fitted_as, framed_as, framed_none, fitted_first, fitted_rest, framed_then}
@@ -41,17 +40,12 @@ use Rattle.frame.proofs.Laws.Forms.{BitsFramed, SumFramed, length_record_bits}
 pub value_fits : (val : List ℕ) (v : ℕ) → length val < 2 ^ 64 → v < length val / 36 → Fits w64 (v + 1)
 value_fits val v l h = omega arith
 
--- what was written is the record's frame, as wide as what stands there
 module _ (d : ℕ) (s val : List ℕ) (p v : ℕ) where
-  pub record_done : {o : Bits} {before : List ℕ} {bit : ℕ} {after : List ℕ} {next end : ℕ} → frame_at d s val p v ≡ o → Framed o before bit after next end → Framed (frame_at d s val p v) before bit after next (bit + width (structural.standing d s p))
-  record_done {next = next} e w =
-      let l = frame_width d s val p v w.frame next (e ∙ w.told) in
-      record { frame = w.frame; told = e ∙ w.told; wrote = w.wrote; ends = omega arith }
-
-  pub frame_end : {E W buf : List ℕ} {bit : ℕ} → Wide s E W → Stands d s E p → Fitted (frame_at d s val p v) buf bit → bit + get_or W p 0 < 2 ^ 64
-  frame_end w g f =
-      let l = frame_width d s val p v f.frame f.next f.told in
-      let q = w.right d p g in omega (arith, f.inside.1)
+  -- what was written is as wide as what stands there
+  pub record_done : {before : List ℕ} {bit : ℕ} {after : List ℕ} {next end : ℕ} → Framed (frame_at d s val p v) before bit after next end → Framed (frame_at d s val p v) before bit after next (bit + width (structural.standing d s p))
+  record_done {next = next} w =
+      let l = frame_width d s val p v w.frame next w.told in
+      record { frame = w.frame; told = w.told; wrote = w.wrote; ends = omega (arith, w.ends) }
 
   pub bits_inside : {j n : ℕ} {buf : List ℕ} {bit : ℕ} → BitsFramed j n d s val p v → Fitted (frame_at d s val p v) buf bit → Inside buf bit n
   bits_inside {j} {n} b f =
@@ -59,8 +53,8 @@ module _ (d : ℕ) (s val : List ℕ) (p v : ℕ) where
       let l = sym (ap (λ z. length z.0) u) ∙ length_record_bits val v j n b.there b.inside in
       (omega (arith, f.inside.0), omega (arith, f.inside.1))
 
-  pub bits_done : {j n : ℕ} {before after : List ℕ} {bit : ℕ} → BitsFramed j n d s val p v → Wrote before bit (told.record_bits val v j n) after → Framed (frame_at d s val p v) before bit after (v + 1) (bit + width (structural.standing d s p))
-  bits_done {j} {n} {bit = bit} b w = record_done {end = bit + length (told.record_bits val v j n)} b.same (record { frame = told.record_bits val v j n; told = refl; wrote = w; ends = refl })
+  pub bits_done : {j n : ℕ} {before after : List ℕ} {bit : ℕ} → BitsFramed j n d s val p v → Wrote before bit (told.record_bits val v j n) after → Framed (frame_at d s val p v) before bit after (v + 1) (bit + n)
+  bits_done {j} {n} {bit = bit} b w = record { frame = told.record_bits val v j n; told = b.same; wrote = w; ends = ap (λ l. bit + l) (sym (length_record_bits val v j n b.there b.inside)) }
 
 -- ROWS
 
@@ -71,8 +65,8 @@ pub record Going (k : Parts) (d : ℕ) (s E val : List ℕ) (n p v : ℕ) (start
   pub whole : (new : List ℕ) (e z : ℕ) → Framed (row k d s val left place next) buf here new e z → Framed (row k d s val n p v) start bit new e z
   pub size : length buf ≡ length start
 
-pub going_start : {k : Parts} {d : ℕ} {s E val : List ℕ} {n p v : ℕ} {buf : List ℕ} {bit : ℕ} → GivenParts k d s E n p → Fitted (row k d s val n p v) buf bit → Going k d s E val n p v buf bit buf p v bit n
-going_start g f = record { given = g; rest = f; whole = λ new e z w. w; size = refl }
+pub going_start : {k : Parts} {d : ℕ} {s E val : List ℕ} {n p v : ℕ} {buf : List ℕ} {bit left : ℕ} → left ≡ n → GivenParts k d s E n p → Fitted (row k d s val n p v) buf bit → Going k d s E val n p v buf bit buf p v bit left
+going_start e g f = rw e (record { given = g; rest = f; whole = λ new e z w. w; size = refl })
 
 module _ {k : Parts} {d : ℕ} {s E val : List ℕ} {n p v : ℕ} {start : List ℕ} {bit : ℕ} {buf : List ℕ} {place next here : ℕ} where
   first : (left : ℕ) → 0 < left → Going k d s E val n p v start bit buf place next here left → Stands d s E place × Fitted (frame_at d s val place next) buf here
@@ -86,12 +80,12 @@ module _ {k : Parts} {d : ℕ} {s E val : List ℕ} {n p v : ℕ} {start : List 
   pub going_fitted : {left : ℕ} → 0 < left → Going k d s E val n p v start bit buf place next here left → Fitted (frame_at d s val place next) buf here
   going_fitted {left} l g = (first left l g).1
 
-  pub going_next : (left : ℕ) → 0 < left → Going k d s E val n p v start bit buf place next here left → {new : List ℕ} {e z place' : ℕ} → Framed (frame_at d s val place next) buf here new e z → place' ≡ after_at k E place → Going k d s E val n p v start bit new place' e z (left - 1)
+  pub going_next : (left : ℕ) {rest : ℕ} → rest + 1 ≡ left → Going k d s E val n p v start bit buf place next here left → {new : List ℕ} {e z place' : ℕ} → Framed (frame_at d s val place next) buf here new e z → place' ≡ after_at k E place → Going k d s E val n p v start bit new place' e z rest
   unfolding row told.skip
-  going_next zero l g w q = absurd (omega arith)
-  going_next (suc left) l g {new} {e} {z} {place'} w q =
+  going_next zero x g w q = absurd (omega arith)
+  going_next (suc left) {rest} x g {new} {e} {z} {place'} w q =
       let r = row k d s val left (told.after k d s place) in
-      let i : suc left - 1 ≡ left = omega arith in
+      let i : rest ≡ left = omega arith in
       let j : place' ≡ told.after k d s place = q ∙ after_is k (g.given.each 0 (omega arith)) in
       rw (i, j) (record {
         given = record { each = λ m h. g.given.each (suc m) (omega arith) };
@@ -107,19 +101,15 @@ module _ {k : Parts} {d : ℕ} {s E val : List ℕ} {n p v : ℕ} {start : List 
 
 -- SUMS
 
--- the table has what stands
-pub as_table : {d : ℕ} {s E W : List ℕ} {p : ℕ} {o : Bits} {before : List ℕ} {bit : ℕ} {after : List ℕ} {next : ℕ} → Wide s E W → Stands d s E p → Framed o before bit after next (bit + width (structural.standing d s p)) → Framed o before bit after next (bit + get_or W p 0)
-as_table {d} {p = p} w g f = rw (w.right d p g) f
-
--- choice i stands at o, and the table has the sum's width
-pub record Choice (n i d : ℕ) (s E val W : List ℕ) (p v o : ℕ) : Type 0 where
+-- choice i stands at o, and w is the sum's width
+pub record Choice (n i d : ℕ) (s E val : List ℕ) (w p v o : ℕ) : Type 0 where
   pub given : Stands (d - 1) s E o
-  pub room : length (tags (btree n) i) + width (structural.standing (d - 1) s o) ≤ get_or W p 0
-  pub same : frame_at d s val p v ≡ chosen (d - 1) s val n i (get_or W p 0) o (v + 1)
+  pub room : length (tags (btree n) i) + width (structural.standing (d - 1) s o) ≤ w
+  pub same : frame_at d s val p v ≡ chosen (d - 1) s val n i w o (v + 1)
 
-pub choice : {n i d : ℕ} {s E val W : List ℕ} {p v o : ℕ} → SumFramed n i d s E val p v → Wide s E W → Stands d s E p → o ≡ hops E i (p + 1) → Choice n i d s E val W p v o
-choice {n} {i} {d} {s} {E} {val} {W} {p} {v} {o} u w g e =
-    let q = w.right d p g in
+pub choice : {n i d : ℕ} {s E val W : List ℕ} {w p v o : ℕ} → SumFramed n i d s E val p v → Wide s E W → Stands d s E p → w ≡ get_or W p 0 → o ≡ hops E i (p + 1) → Choice n i d s E val w p v o
+choice {n} {i} {d} {s} {E} {val} {p = p} {v} u wide g k e =
+    let q = k ∙ wide.right d p g in
     rw e (record { given = u.given; room = omega (arith, u.room); same = u.same ∙ ap (λ k. chosen (d - 1) s val n i k (hops E i (p + 1)) (v + 1)) (sym q) })
 
 module _ (d : ℕ) (s val : List ℕ) (n i w p v : ℕ) {buf : List ℕ} {bit : ℕ} (f : Fitted (chosen d s val n i w p v) buf bit) where
@@ -148,19 +138,19 @@ module _ (d : ℕ) (s val : List ℕ) (n i w p v : ℕ) {buf : List ℕ} {bit : 
       same_frame : inner.0 ≡ (u.frame, next)
       same_frame = some-injective inner.0 (u.frame, next) (sym inner.1 ∙ u.told)
 
-      pub sum_end : (end ≤ bit + w) × (bit + w < 2 ^ 64) × (end < 2 ^ 64)
+      pub sum_end : (end ≤ bit + w) × (bit + w < 2 ^ 64)
       sum_end =
           let l = sizes in
           let e = t.ends in
           let h = u.ends in
           let q = frame_width d s val p v u.frame next u.told in
           let z = ap (λ (z : List Bool × ℕ). length z.0) same_frame in
-          (omega arith, omega (arith, f.inside.1), omega (arith, f.inside.1))
+          (omega arith, omega (arith, f.inside.1))
 
       pub sum_zeros : Inside new end (bit + w - end)
       sum_zeros =
           let l = sizes in
-          let (a, b, _) = sum_end in
+          let (a, b) = sum_end in
           let k = t.wrote.same in
           let m = u.wrote.same in
           (omega (arith, f.inside.0), omega arith)
@@ -239,7 +229,7 @@ pub record Half (b h : NonZeroPow2Usize) (m n k : ℕ) : Type 0 where
   pub others : m - k < h.0
   pub same : (d : ℕ) (s val : List ℕ) (p v : ℕ) → listed d s val b m p v ≡ and_then (block d s val n k p v) (listed d s val h (m - k) p)
 
-pub half : (m n k : ℕ) {b h : NonZeroPow2Usize} {r : Bound} → FairBound b → m < b.0 → r ≡ half_bound b.0 → r ≡ bounds.Of h → n ≡ h.0 → k ≡ block_share m n → Half b h m n k
+pub half : (m n k : ℕ) {b h : NonZeroPow2Usize} {r : Option NonZeroPow2Usize} → FairBound b → m < b.0 → r ≡ half_bound b.0 → r ≡ Some h → n ≡ h.0 → k ≡ block_share m n → Half b h m n k
 half m n k {b} {h} f l q j e x =
     let u = halved 0 [] [] 0 0 in
     record { fair = u.fair; less = u.less; most = u.most; others = u.others; same = λ d s val p v. rw e (halved d s val p v).same }
@@ -257,7 +247,7 @@ module _ {b h : NonZeroPow2Usize} {m n k : ℕ} (u : Half b h m n k) (d : ℕ) (
   pub half_done : {buf mid new : List ℕ} {bit next end next' end' : ℕ} → Framed (block d s val n k p v) buf bit mid next end → Framed (listed d s val h (m - k) p next) mid end new next' end' → Framed (listed d s val b m p v) buf bit new next' end'
   half_done w z = framed_as (u.same d s val p v) (framed_then (block d s val n k p v) (listed d s val h (m - k) p) w z)
 
-module _ (m : ℕ) {b : NonZeroPow2Usize} {r : Bound} (f : FairBound b) (l : m < b.0) (q : r ≡ half_bound b.0) (j : r ≡ bounds.Not) where
+module _ (m : ℕ) {b : NonZeroPow2Usize} {r : Option NonZeroPow2Usize} (f : FairBound b) (l : m < b.0) (q : r ≡ half_bound b.0) (j : r ≡ None) where
   pub one_share : (m ≡ 0) ⊎ (m ≡ 1)
   one_share = share_one m f (sym j ∙ q) l
 

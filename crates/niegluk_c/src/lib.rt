@@ -5,7 +5,7 @@ ghost use Rattle.model.specs.Edits.{Edited};
 ghost use Rattle.model.specs.Frames.{after};
 ghost use Rattle.model.specs.Calls.{Lower, Room, WriteShape, ShapeRecords, Reconstruct, CleanShape, WriteFrame, ReadFrame, PartRead, PartEdit, SearchTold};
 
-use reply::{found_flag, found_index, found_number, length_of, number, room_number, room_of};
+use reply::number;
 
 // `lower` for C: the number, 0 where the type is lowered; `length` is 0 where it is not.
 #[unsafe(no_mangle)]
@@ -13,7 +13,7 @@ pub extern "C" fn niegluk_lower(ty: &[u8], out: &mut [u8], length: &mut usize) -
     ensures { Lower ty.now out.old result length.new out.new }
 {
     let lowered = niegluk::lower(ty, out);
-    *length = length_of(lowered);
+    *length = lowered.unwrap_or(0);
     number(lowered)
 }
 
@@ -28,11 +28,11 @@ pub extern "C" fn niegluk_room(
     ensures { Room ty.now result lowered.new bits.new shape.new }
 {
     let told = niegluk::room(ty);
-    let room = room_of(told);
+    let room = told.unwrap_or_default();
     *lowered = room.lowered;
     *bits = room.bits;
     *shape = room.shape;
-    room_number(told)
+    number(told)
 }
 
 // `write_shape` for C: the number, 0 where the shape is written; `length` is 0 where it is not.
@@ -46,7 +46,7 @@ pub extern "C" fn niegluk_write_shape(
     ensures { WriteShape ty.now value.now out.old result length.new out.new }
 {
     let shaped = niegluk::write_shape(ty, value, out);
-    *length = length_of(shaped);
+    *length = shaped.unwrap_or(0);
     number(shaped)
 }
 
@@ -56,7 +56,7 @@ pub extern "C" fn niegluk_shape_records(ty: &[u8], value: &[u8], records: &mut u
     ensures { ShapeRecords ty.now value.now result records.new }
 {
     let told = niegluk::shape_records(ty, value);
-    *records = length_of(told);
+    *records = told.unwrap_or(0);
     number(told)
 }
 
@@ -71,7 +71,7 @@ pub extern "C" fn niegluk_reconstruct(
     ensures { Reconstruct ty.now shape.now out.old result length.new out.new }
 {
     let restored = niegluk::reconstruct(ty, shape, out);
-    *length = length_of(restored);
+    *length = restored.unwrap_or(0);
     number(restored)
 }
 
@@ -86,7 +86,7 @@ pub extern "C" fn niegluk_clean_shape(
     ensures { CleanShape ty.now shape.now out.old result length.new out.new }
 {
     let cleaned = niegluk::clean_shape(ty, shape, out);
-    *length = length_of(cleaned);
+    *length = cleaned.unwrap_or(0);
     number(cleaned)
 }
 
@@ -101,7 +101,7 @@ pub extern "C" fn niegluk_write_frame(
     ensures { WriteFrame ty.now value.now out.old result length.new out.new }
 {
     let framed = niegluk::write_frame(ty, value, out);
-    *length = length_of(framed);
+    *length = framed.unwrap_or(0);
     number(framed)
 }
 
@@ -116,7 +116,7 @@ pub extern "C" fn niegluk_read_frame(
     ensures { ReadFrame ty.now frame.now out.old result length.new out.new }
 {
     let unframed = niegluk::read_frame(ty, frame, out);
-    *length = length_of(unframed);
+    *length = unframed.unwrap_or(0);
     number(unframed)
 }
 
@@ -132,7 +132,7 @@ pub extern "C" fn niegluk_part_read(
     ensures { PartRead ty.now frame.now path.now out.old result length.new out.new }
 {
     let read = niegluk::part_read(ty, frame, path, out);
-    *length = length_of(read);
+    *length = read.unwrap_or(0);
     number(read)
 }
 
@@ -149,7 +149,7 @@ pub extern "C" fn niegluk_part_edit(
     ensures edited { Edited after ty.now frame.old path.now value.now result length.new frame.new }
 {
     let edited = niegluk::part_edit(ty, frame, path, value);
-    *length = length_of(edited);
+    *length = edited.unwrap_or(0);
     number(edited)
 }
 
@@ -166,7 +166,8 @@ pub extern "C" fn niegluk_search(
     ensures { SearchTold ty.now day.now path.now value.now result found.new index.new }
 {
     let told = niegluk::search(ty, day, path, value);
-    *found = found_flag(told);
-    *index = found_index(told);
-    found_number(told)
+    let at = told.unwrap_or(None);
+    *found = u32::from(at.is_some());
+    *index = at.unwrap_or(0);
+    number(told)
 }

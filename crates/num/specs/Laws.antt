@@ -1,6 +1,6 @@
 -- Laws of list bounds and bit widths: a look into the list of them is the model's test, and a search among the powers of two finds the power's own exponent.
 -- A bound's search is one among 1, 2, 4 .. whose place 0 is left out.
-use Rattle.std.specs.Prelude.{◌≡◌, refl, Bool, true, false, ◌||◌, List, [], ◌∷◌, ◌⊎◌, ℕ, zero, suc, ◌+◌, ◌/◌, ◌^◌, ◌≤◌, ◌<◌, eqb, ltb}
+use Rattle.std.specs.Prelude.{◌≡◌, refl, Bool, true, false, ◌||◌, List, [], ◌∷◌, ◌⊎◌, ℕ, zero, suc, ◌+◌, ◌/◌, ◌^◌, ◌≤◌, ◌<◌, eqb, ltb, Option as Optional, Some, None}
 use Rattle.std.proofs.Common.{sym, ap, ◌∙◌, inl, inr, arith, eqb-true, eq-eqb, ne_eqb, ltb-true, le-ltb}
 use Rattle.std.proofs.Math.Option.{Option, none, some}
 use Rattle.std.proofs.Math.Nat.{two-pow-succ, one-le-pow, pow-le-pow_right}
@@ -8,12 +8,8 @@ use Rattle.std.proofs.Math.Decide.{dec_le}
 use Rattle.model.specs.Options.{pick, map_o, one_of, find}
 use Rattle.model.specs.TypeFiles.{widths}
 use Rattle.model.proofs.Laws.TypeFiles.{find_sound}
-use Rattle.num.specs.declared.Found.{Found}
-use Rattle.num.specs.declared.Found.TheVariants.{At, Nothing}
 use Rattle.num.specs.declared.NonZeroPow2Usize.{NonZeroPow2Usize}
 use Rattle.num.specs.declared.Pow2Usize.{Pow2Usize}
-use Rattle.num.specs.declared.Bound.TheVariants as bounds
-use Rattle.num.specs.declared.Width.TheVariants as bit_widths
 use Rattle.num.specs.Powers.{found, exponent_of, log2, bound, bound_exponent, bound_if, bound_of, bound_log2, half_bound, width, width_of}
 
 -- LISTED NUMBERS
@@ -73,10 +69,10 @@ half_power e = omega (arith, two-pow-succ e)
 -- LIST BOUNDS
 
 -- place 0, the number 1, is no bound
-abbrev positive : Found → Option ℕ
-positive Nothing = none
-positive (At zero) = none
-positive (At (suc e)) = some e
+abbrev positive : Optional ℕ → Option ℕ
+positive None = none
+positive (Some zero) = none
+positive (Some (suc e)) = some e
 
 positive_suc : (o : Option ℕ) → positive (found (map_o suc o)) ≡ o
 positive_suc none = refl
@@ -91,12 +87,12 @@ bound_search n = go (eqb n 1) refl
     go false e = sym (ap (λ o. positive (found o)) (find_shift (λ k. 2 ^ k) 15 0 n) ∙ positive_suc (bound_exponent n))
 
 -- what is searched for among the f k is one of them
-bound_in : (f : ℕ → ℕ) (fuel i n : ℕ) → bound_if n (find f fuel i n) ≡ pick (one_of n (values f fuel i)) (bounds.Of (bound n)) bounds.Not
+bound_in : (f : ℕ → ℕ) (fuel i n : ℕ) → bound_if n (find f fuel i n) ≡ pick (one_of n (values f fuel i)) (Some (bound n)) None
 bound_in f zero i n = refl
 bound_in f (suc fuel) i n = go (eqb n (f i)) (bound_in f fuel (suc i) n)
   where
-    go : (b : Bool) → bound_if n (find f fuel (suc i) n) ≡ pick (one_of n (values f fuel (suc i))) (bounds.Of (bound n)) bounds.Not
-        → bound_if n (pick b (some i) (find f fuel (suc i) n)) ≡ pick (b || one_of n (values f fuel (suc i))) (bounds.Of (bound n)) bounds.Not
+    go : (b : Bool) → bound_if n (find f fuel (suc i) n) ≡ pick (one_of n (values f fuel (suc i))) (Some (bound n)) None
+        → bound_if n (pick b (some i) (find f fuel (suc i) n)) ≡ pick (b || one_of n (values f fuel (suc i))) (Some (bound n)) None
     go true rest = refl
     go false rest = rest
 
@@ -104,30 +100,30 @@ bound_in f (suc fuel) i n = go (eqb n (f i)) (bound_in f fuel (suc i) n)
 abbrev pub all_bounds : List ℕ
 all_bounds = values (λ e. 2 ^ suc e) 15 0
 
-pub is_bound : (n : ℕ) → Among n all_bounds → bounds.Of (bound n) ≡ bound_of n
+pub is_bound : (n : ℕ) → Among n all_bounds → Some (bound n) ≡ bound_of n
 unfolding bound_of
-is_bound n h = sym (bound_in (λ e. 2 ^ suc e) 15 0 n ∙ ap (λ b. pick b (bounds.Of (bound n)) bounds.Not) (among n all_bounds h))
+is_bound n h = sym (bound_in (λ e. 2 ^ suc e) 15 0 n ∙ ap (λ b. pick b (Some (bound n)) None) (among n all_bounds h))
 
-pub no_bound : (n : ℕ) → (Among n all_bounds → ⊥) → bounds.Not ≡ bound_of n
+pub no_bound : (n : ℕ) → (Among n all_bounds → ⊥) → None ≡ bound_of n
 unfolding bound_of
-no_bound n h = sym (bound_in (λ e. 2 ^ suc e) 15 0 n ∙ ap (λ b. pick b (bounds.Of (bound n)) bounds.Not) (not_among n all_bounds h))
+no_bound n h = sym (bound_in (λ e. 2 ^ suc e) 15 0 n ∙ ap (λ b. pick b (Some (bound n)) None) (not_among n all_bounds h))
 
 abbrev suc_or_zero : Option ℕ → ℕ
 suc_or_zero none = 0
 suc_or_zero (some e) = suc e
 
-pub bound_log2_by : (n : ℕ) (r : Found) → r ≡ exponent_of 16 n → log2 r ≡ bound_log2 n
+pub bound_log2_by : (n : ℕ) (r : Optional ℕ) → r ≡ exponent_of 16 n → log2 r ≡ bound_log2 n
 unfolding bound_log2
 bound_log2_by n r h = same r ∙ ap suc_or_zero (ap positive h ∙ sym (bound_search n))
   where
-    same : (r : Found) → log2 r ≡ suc_or_zero (positive r)
-    same Nothing = refl
-    same (At zero) = refl
-    same (At (suc e)) = refl
+    same : (r : Optional ℕ) → log2 r ≡ suc_or_zero (positive r)
+    same None = refl
+    same (Some zero) = refl
+    same (Some (suc e)) = refl
 
 -- an admitted bound and its exponent
 pub record Bounded (n e : ℕ) : Type 0 where
-  pub admitted : bound_of n ≡ bounds.Of (bound n)
+  pub admitted : bound_of n ≡ Some (bound n)
   pub power : n ≡ 2 ^ suc e
   pub log2 : bound_log2 n ≡ suc e
 
@@ -141,55 +137,55 @@ pub bound_power : (e : ℕ) → e < 15 → find (λ e. 2 ^ suc e) 15 0 (2 ^ suc 
 bound_power e h = find_first (λ e. 2 ^ suc e) (λ i k l. two_pow_rise (suc i) (suc k) (omega arith)) 15 0 e (omega arith) (omega arith)
 
 -- what `new` admits the model's reader takes, and nothing else
-pub bound_is : (n : ℕ) (b : NonZeroPow2Usize) → bounds.Of b ≡ bound_of n → (e : ℕ) × (find (λ e. 2 ^ suc e) 15 0 n ≡ some e) × (b ≡ bound n)
+pub bound_is : (n : ℕ) (b : NonZeroPow2Usize) → Some b ≡ bound_of n → (e : ℕ) × (find (λ e. 2 ^ suc e) 15 0 n ≡ some e) × (b ≡ bound n)
 unfolding bound_of
 bound_is n b h = go (bound_exponent n) refl h
   where
-    go : (o : Option ℕ) → bound_exponent n ≡ o → bounds.Of b ≡ bound_if n o → (e : ℕ) × (bound_exponent n ≡ some e) × (b ≡ bound n)
+    go : (o : Option ℕ) → bound_exponent n ≡ o → Some b ≡ bound_if n o → (e : ℕ) × (bound_exponent n ≡ some e) × (b ≡ bound n)
     go none q m = let z : ◌≡◌ {A = ℕ} 0 1 = cc in absurd (omega arith)
     go (some e) q m = (e, q, cc)
 
 -- the smallest bound has no half, and the half of a larger one is the bound before it
-pub half_bound_two : bounds.Not ≡ half_bound 2
+pub half_bound_two : None ≡ half_bound 2
 unfolding half_bound
 half_bound_two = refl
 
-pub half_bound_more : (e : ℕ) → bounds.Of (bound (2 ^ suc e)) ≡ half_bound (2 ^ suc (suc e))
+pub half_bound_more : (e : ℕ) → Some (bound (2 ^ suc e)) ≡ half_bound (2 ^ suc (suc e))
 unfolding half_bound
 half_bound_more e = rw (half_power (suc e), le-ltb (2 ^ suc e) 2 (omega (arith, two-pow-succ e, one-le-pow e 2 (omega arith))))
 
 -- the half as a number: 1 at 2, else the half's own
-pub half_one : (n : ℕ) → 2 ≤ n → bounds.Not ≡ half_bound n → n / 2 ≡ 1
+pub half_one : (n : ℕ) → 2 ≤ n → None ≡ half_bound n → n / 2 ≡ 1
 unfolding half_bound
 half_one n l e = go (ltb (n / 2) 2) refl e
   where
-    go : (c : Bool) → ltb (n / 2) 2 ≡ c → bounds.Not ≡ pick c bounds.Not (bounds.Of (bound (n / 2))) → n / 2 ≡ 1
+    go : (c : Bool) → ltb (n / 2) 2 ≡ c → None ≡ pick c None (Some (bound (n / 2))) → n / 2 ≡ 1
     go true w h = let m = ltb-true (n / 2) 2 w in omega arith
     go false w h = let z : ◌≡◌ {A = ℕ} 0 1 = cc in absurd (omega arith)
 
-pub half_is : (n : ℕ) {h : NonZeroPow2Usize} → bounds.Of h ≡ half_bound n → n / 2 ≡ h.0
+pub half_is : (n : ℕ) {h : NonZeroPow2Usize} → Some h ≡ half_bound n → n / 2 ≡ h.0
 unfolding half_bound
 half_is n {h} e = go (ltb (n / 2) 2) e
   where
-    go : (c : Bool) → bounds.Of h ≡ pick c bounds.Not (bounds.Of (bound (n / 2))) → n / 2 ≡ h.0
+    go : (c : Bool) → Some h ≡ pick c None (Some (bound (n / 2))) → n / 2 ≡ h.0
     go true h = let z : ◌≡◌ {A = ℕ} 0 1 = cc in absurd (omega arith)
     go false e = let i : bound (n / 2) ≡ h = cc in ap (λ (b : NonZeroPow2Usize). b.0) i
 
 -- BIT WIDTHS
 
-pub is_width : (n : ℕ) → Among n widths → bit_widths.Of (width n) ≡ width_of n
+pub is_width : (n : ℕ) → Among n widths → Some (width n) ≡ width_of n
 unfolding width_of
-is_width n h = sym (ap (λ b. pick b (bit_widths.Of (width n)) bit_widths.Not) (among n widths h))
+is_width n h = sym (ap (λ b. pick b (Some (width n)) None) (among n widths h))
 
-pub no_width : (n : ℕ) → (Among n widths → ⊥) → bit_widths.Not ≡ width_of n
+pub no_width : (n : ℕ) → (Among n widths → ⊥) → None ≡ width_of n
 unfolding width_of
-no_width n h = sym (ap (λ b. pick b (bit_widths.Of (width n)) bit_widths.Not) (not_among n widths h))
+no_width n h = sym (ap (λ b. pick b (Some (width n)) None) (not_among n widths h))
 
 -- what `new` admits the model's reader takes, and nothing else
-pub width_is : (n : ℕ) (w : Pow2Usize) → bit_widths.Of w ≡ width_of n → (one_of n widths ≡ true) × (w ≡ width n)
+pub width_is : (n : ℕ) (w : Pow2Usize) → Some w ≡ width_of n → (one_of n widths ≡ true) × (w ≡ width n)
 unfolding width_of
 width_is n w h = go (one_of n widths) h
   where
-    go : (b : Bool) → bit_widths.Of w ≡ pick b (bit_widths.Of (width n)) bit_widths.Not → (b ≡ true) × (w ≡ width n)
+    go : (b : Bool) → Some w ≡ pick b (Some (width n)) None → (b ≡ true) × (w ≡ width n)
     go true m = (refl, cc)
     go false m = let z : ◌≡◌ {A = ℕ} 0 1 = cc in absurd (omega arith)

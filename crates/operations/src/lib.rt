@@ -1,321 +1,174 @@
-// What the entries do once a type file was read (`entries`): the rows behind the type's, and the result.
-// Each takes what `read_type` answered, the columns that it handed out and the left sizes, and is called by the public entry of its name.
+// What the entries do once a type file was read: the rows behind the type's, and the result.
+// Each takes the type file with its table, and is called by the public entry of its name.
 #![tactic(auto)]
 
-ghost use Rattle.std.specs.Prelude.{◌≡◌, true, false};
 ghost use Rattle.model.specs.Calls.{Lower, Room, WriteShape, ShapeRecords, Reconstruct, CleanShape, WriteFrame, ReadFrame, PartRead, PartEdit, Search};
 ghost use Rattle.model.specs.Edits.{Edited};
 ghost use Rattle.model.specs.Frames.{after};
-ghost use Rattle.reply.specs.Numbers.{number_of, length_of, room_number, room_of, found_number, found_at};
-ghost use Rattle.array.specs.Lefts.{left_sizes};
-ghost use Rattle.entries.specs.Answers.{TypeRead};
+ghost use Rattle.reply.specs.Numbers.{number_of, length_of, room_of, found_at};
+ghost use Rattle.delivery.specs.Tables.{IsRead, IsMeasured};
 
-use accept::{Accepted, accept};
-use array::Lefts;
-use edit::{edit_part, read_part};
-use entries::Read;
-use rebuild::{Records, ShapeAnswer, check_shape, value_records};
-use reply::{Found, Refusal, Reply, RoomReply, TypeRoom};
+use accept::accept;
+use edit::{edit_part, read_part, type_is_bytes};
+use rebuild::{check_shape, value_records};
+use reply::{Refusal, TypeRoom};
 use restore::write_value;
 use room::longest_shape;
 use search::search_day;
 use shape_clean::write_cleaned;
 use structural::write_lowered;
-use table::RECORDS;
-use value::{Checked, check_file};
+use types::Table;
+use value::check_file;
+
+// The levels that a type may have.
+const LEVELS: usize = 32;
+
+// The bytes of a record of a value file.
+const RECORD: usize = 36;
 
 // Writes the lowered type of a type file over the front of `out`, and answers its length; every byte behind it stays, and all of them where it is refused.
-pub fn lower(ty: &[u8], read: Read, columns: &[usize], lefts: &Lefts, out: &mut [u8]) -> Reply
-    requires type_read { TypeRead true ty.now read columns.now }
-    requires lefts_value { lefts.now ≡ left_sizes }
-    ensures { Lower ty.now out.old (number_of result) (length_of result) out.new }
+pub fn lower(table: &Table<'_>, out: &mut [u8]) -> Result<usize, Refusal>
+    requires { IsMeasured table.now.ty.now table.now.entries.now }
+    ensures { Lower table.now.ty.now out.old (number_of result) (length_of result) out.new }
 {
-    match read {
-        Read::Refused(x) => Reply::Refused(x),
-        Read::Root(root) => {
-            if out.len() < root.size as usize {
-                return Reply::Refused(Refusal::NoRoom);
-            }
-            let ends = &columns[..RECORDS];
-            Reply::Done(write_lowered(ty, ends, 0, 32, out, lefts))
-        }
+    if out.len() < table.size(0) {
+        return Err(Refusal::NoRoom);
     }
+    Ok(write_lowered(table, 0, LEVELS, out))
 }
 
 // Writes the shape of a value over the front of `out`, and answers its length; every byte behind it stays, and all of them where it is refused.
-pub fn write_shape(
-    ty: &[u8],
-    read: Read,
-    columns: &[usize],
-    lefts: &Lefts,
-    value: &[u8],
-    out: &mut [u8],
-) -> Reply
-    requires type_read { TypeRead true ty.now read columns.now }
-    requires lefts_value { lefts.now ≡ left_sizes }
-    ensures { WriteShape ty.now value.now out.old (number_of result) (length_of result) out.new }
+pub fn write_shape(table: &Table<'_>, value: &[u8], out: &mut [u8]) -> Result<usize, Refusal>
+    requires { IsMeasured table.now.ty.now table.now.entries.now }
+    ensures { WriteShape table.now.ty.now value.now out.old (number_of result) (length_of result) out.new }
 {
-    match read {
-        Read::Refused(x) => Reply::Refused(x),
-        Read::Root(_) => {
-            let ends = &columns[..RECORDS];
-            match check_file(ty, ends, value, lefts) {
-                Checked::Bad(x) => Reply::Refused(x),
-                Checked::Next(_, size) => {
-                    if out.len() < size {
-                        return Reply::Refused(Refusal::NoRoom);
-                    }
-                    Reply::Done(shape::write_shape(ty, ends, value, out, lefts))
-                }
-            }
-        }
+    let (_, size) = check_file(table, value)?;
+    if out.len() < size {
+        return Err(Refusal::NoRoom);
     }
+    Ok(shape::write_shape(table, value, out))
 }
 
 // Tells the room that a type takes: the records of its lowered type, the bits of a frame, and the most records that a shape of it has.
-pub fn room(ty: &[u8], read: Read, columns: &[usize], lefts: &Lefts) -> RoomReply
-    requires type_read { TypeRead true ty.now read columns.now }
-    requires lefts_value { lefts.now ≡ left_sizes }
-    ensures { Room ty.now (room_number result) (room_of result).lowered (room_of result).bits (room_of result).shape }
+pub fn room(table: &Table<'_>) -> TypeRoom
+    requires { IsMeasured table.now.ty.now table.now.entries.now }
+    ensures { Room table.now.ty.now 0 result.lowered result.bits result.shape }
 {
-    match read {
-        Read::Refused(x) => RoomReply::Refused(x),
-        Read::Root(root) => {
-            let ends = &columns[..RECORDS];
-            let widths = &columns[RECORDS..];
-            RoomReply::Done(TypeRoom {
-                lowered: root.size as usize,
-                bits: widths[0],
-                shape: longest_shape(ty, ends, lefts),
-            })
-        }
+    TypeRoom {
+        lowered: table.size(0),
+        bits: table.width(0),
+        shape: longest_shape(table),
     }
 }
 
 // Tells how many records the shape of a value has, as `write_shape` would write it.
-pub fn shape_records(ty: &[u8], read: Read, columns: &[usize], lefts: &Lefts, value: &[u8]) -> Reply
-    requires type_read { TypeRead true ty.now read columns.now }
-    requires lefts_value { lefts.now ≡ left_sizes }
-    ensures { ShapeRecords ty.now value.now (number_of result) (length_of result) }
+pub fn shape_records(table: &Table<'_>, value: &[u8]) -> Result<usize, Refusal>
+    requires { IsMeasured table.now.ty.now table.now.entries.now }
+    ensures { ShapeRecords table.now.ty.now value.now (number_of result) (length_of result) }
 {
-    match read {
-        Read::Refused(x) => Reply::Refused(x),
-        Read::Root(_) => {
-            let ends = &columns[..RECORDS];
-            match check_file(ty, ends, value, lefts) {
-                Checked::Bad(why) => Reply::Refused(why),
-                Checked::Next(_, size) => Reply::Done(size),
-            }
-        }
-    }
+    let (_, records) = check_file(table, value)?;
+    Ok(records)
 }
 
 // Writes the value file that a shape gives as one of the type over the front of `out`, and answers its length; every byte behind it stays, and all of them where it is refused.
 // It needs no lowering: a Never is refused only where the shape reaches it. Where an empty tuple, an array of 0 or a variant without parts is read, only a unit may stand.
-pub fn reconstruct(
-    ty: &[u8],
-    read: Read,
-    columns: &[usize],
-    lefts: &Lefts,
-    shape: &[u8],
-    out: &mut [u8],
-) -> Reply
-    requires type_read { TypeRead false ty.now read columns.now }
-    requires lefts_value { lefts.now ≡ left_sizes }
-    ensures { Reconstruct ty.now shape.now out.old (number_of result) (length_of result) out.new }
+pub fn reconstruct(table: &Table<'_>, shape: &[u8], out: &mut [u8]) -> Result<usize, Refusal>
+    requires { IsRead table.now.ty.now table.now.entries.now }
+    ensures { Reconstruct table.now.ty.now shape.now out.old (number_of result) (length_of result) out.new }
 {
-    match read {
-        Read::Refused(x) => Reply::Refused(x),
-        Read::Root(_) => {
-            let ends = &columns[..RECORDS];
-            match check_shape(shape) {
-                ShapeAnswer::Refused(x) => Reply::Refused(x),
-                ShapeAnswer::Ok => match value_records(ty, ends, shape, lefts) {
-                    Records::Not => Reply::Refused(Refusal::NotReconstructed),
-                    Records::Of(n, surplus) => {
-                        if surplus != 0 {
-                            return Reply::Refused(Refusal::NoUnit);
-                        }
-                        if out.len() < n * 36 {
-                            return Reply::Refused(Refusal::NoRoom);
-                        }
-                        Reply::Done(write_value(ty, ends, shape, out, lefts))
-                    }
-                },
-            }
-        }
+    check_shape(shape)?;
+    let Some((n, surplus)) = value_records(table, shape) else {
+        return Err(Refusal::NotReconstructed);
+    };
+    if surplus != 0 {
+        return Err(Refusal::NoUnit);
     }
+    if out.len() < n * RECORD {
+        return Err(Refusal::NoRoom);
+    }
+    Ok(write_value(table, shape, out))
 }
 
 // Writes a shape over the front of `out` with a unit at each spot where an empty tuple, an array of 0 or a variant without parts is read, and all else
 // as it is, and answers its length; every byte behind it stays, and all of them where it is refused. It takes whatever the Rust reads: a Never is refused only where the shape reaches it.
-pub fn clean_shape(
-    ty: &[u8],
-    read: Read,
-    columns: &[usize],
-    lefts: &Lefts,
-    shape: &[u8],
-    out: &mut [u8],
-) -> Reply
-    requires type_read { TypeRead false ty.now read columns.now }
-    requires lefts_value { lefts.now ≡ left_sizes }
-    ensures { CleanShape ty.now shape.now out.old (number_of result) (length_of result) out.new }
+pub fn clean_shape(table: &Table<'_>, shape: &[u8], out: &mut [u8]) -> Result<usize, Refusal>
+    requires { IsRead table.now.ty.now table.now.entries.now }
+    ensures { CleanShape table.now.ty.now shape.now out.old (number_of result) (length_of result) out.new }
 {
-    match read {
-        Read::Refused(x) => Reply::Refused(x),
-        Read::Root(_) => {
-            let ends = &columns[..RECORDS];
-            match check_shape(shape) {
-                ShapeAnswer::Refused(x) => Reply::Refused(x),
-                ShapeAnswer::Ok => match value_records(ty, ends, shape, lefts) {
-                    Records::Not => { Reply::Refused(Refusal::NotReconstructed) }
-                    Records::Of(_, surplus) => {
-                        // the surplus is what cleaning takes away
-                        if out.len() < shape.len() - surplus {
-                            return Reply::Refused(Refusal::NoRoom);
-                        }
-                        Reply::Done(write_cleaned(ty, ends, shape, out, lefts))
-                    }
-                },
-            }
-        }
+    check_shape(shape)?;
+    let Some((_, surplus)) = value_records(table, shape) else {
+        return Err(Refusal::NotReconstructed);
+    };
+    // the surplus is what cleaning takes away
+    if out.len() < shape.len() - surplus {
+        return Err(Refusal::NoRoom);
     }
+    Ok(write_cleaned(table, shape, out))
 }
 
 // Writes the frame of a value over the front of `out`, and answers its length; every byte behind it stays, and all of them where it is refused.
-pub fn write_frame(
-    ty: &[u8],
-    read: Read,
-    columns: &[usize],
-    lefts: &Lefts,
-    value: &[u8],
-    out: &mut [u8],
-) -> Reply
-    requires type_read { TypeRead true ty.now read columns.now }
-    requires lefts_value { lefts.now ≡ left_sizes }
-    ensures { WriteFrame ty.now value.now out.old (number_of result) (length_of result) out.new }
+pub fn write_frame(table: &Table<'_>, value: &[u8], out: &mut [u8]) -> Result<usize, Refusal>
+    requires { IsMeasured table.now.ty.now table.now.entries.now }
+    ensures { WriteFrame table.now.ty.now value.now out.old (number_of result) (length_of result) out.new }
 {
-    match read {
-        Read::Refused(x) => Reply::Refused(x),
-        Read::Root(_) => {
-            let ends = &columns[..RECORDS];
-            let widths = &columns[RECORDS..];
-            match check_file(ty, ends, value, lefts) {
-                Checked::Bad(why) => Reply::Refused(why),
-                Checked::Next(_, _) => {
-                    let bytes = (widths[0] + 7) / 8;
-                    if out.len() < bytes {
-                        return Reply::Refused(Refusal::NoRoom);
-                    }
-                    Reply::Done(frame::write_frame(ty, ends, widths, value, out, lefts))
-                }
-            }
-        }
+    check_file(table, value)?;
+    let bytes = (table.width(0) + 7) / 8;
+    if out.len() < bytes {
+        return Err(Refusal::NoRoom);
     }
+    Ok(frame::write_frame(table, value, out))
 }
 
 // Writes the value file of an accepted frame over the front of `out`, and answers its length; every byte behind it stays, and all of them where it is refused.
-pub fn read_frame(
-    ty: &[u8],
-    read: Read,
-    columns: &[usize],
-    lefts: &Lefts,
-    frame: &[u8],
-    out: &mut [u8],
-) -> Reply
-    requires type_read { TypeRead true ty.now read columns.now }
-    requires lefts_value { lefts.now ≡ left_sizes }
-    ensures { ReadFrame ty.now frame.now out.old (number_of result) (length_of result) out.new }
+pub fn read_frame(table: &Table<'_>, frame: &[u8], out: &mut [u8]) -> Result<usize, Refusal>
+    requires { IsMeasured table.now.ty.now table.now.entries.now }
+    ensures { ReadFrame table.now.ty.now frame.now out.old (number_of result) (length_of result) out.new }
 {
-    match read {
-        Read::Refused(x) => Reply::Refused(x),
-        Read::Root(_) => {
-            let ends = &columns[..RECORDS];
-            let widths = &columns[RECORDS..];
-            match accept(ty, ends, widths, frame, lefts) {
-                Accepted::Refused(x) => Reply::Refused(x),
-                Accepted::Records(n) => {
-                    let len = n * 36;
-                    if out.len() < len {
-                        return Reply::Refused(Refusal::NoRoom);
-                    }
-                    Reply::Done(unframe::write_value(ty, ends, widths, frame, out, lefts))
-                }
-            }
-        }
+    let len = accept(table, frame)? * RECORD;
+    if out.len() < len {
+        return Err(Refusal::NoRoom);
     }
+    Ok(unframe::write_value(table, frame, out))
 }
 
 // Writes the value file of the part that a path leads to in an accepted frame over the front of `out`, and answers its length; every byte behind it stays, and all of them where it is refused.
 pub fn part_read(
-    ty: &[u8],
-    read: Read,
-    columns: &[usize],
-    lefts: &Lefts,
+    table: &Table<'_>,
     frame: &[u8],
     path: &[u8],
     out: &mut [u8],
-) -> Reply
-    requires type_read { TypeRead true ty.now read columns.now }
-    requires lefts_value { lefts.now ≡ left_sizes }
-    ensures { PartRead ty.now frame.now path.now out.old (number_of result) (length_of result) out.new }
+) -> Result<usize, Refusal>
+    requires { IsMeasured table.now.ty.now table.now.entries.now }
+    ensures { PartRead table.now.ty.now frame.now path.now out.old (number_of result) (length_of result) out.new }
 {
-    match read {
-        Read::Refused(x) => Reply::Refused(x),
-        Read::Root(_) => {
-            let ends = &columns[..RECORDS];
-            let widths = &columns[RECORDS..];
-            read_part(ty, ends, widths, frame, path, out, lefts)
-        }
-    }
+    read_part(table, frame, path, out)
 }
 
 // Replaces the part that a path leads to in an accepted frame by a value of the part's type, in the frame's own bytes, and answers the frame's length; no bit outside the part's own stretch changes, and none at all where it is refused.
 // The second promise is demand 3, whole.
 pub fn part_edit(
-    ty: &[u8],
-    read: Read,
-    columns: &[usize],
-    lefts: &Lefts,
+    table: &Table<'_>,
     frame: &mut [u8],
     path: &[u8],
     value: &[u8],
-) -> Reply
-    requires type_read { TypeRead true ty.now read columns.now }
-    requires lefts_value { lefts.now ≡ left_sizes }
-    ensures part_edit { PartEdit ty.now frame.old path.now value.now (number_of result) (length_of result) frame.new }
-    ensures edited { Edited after ty.now frame.old path.now value.now (number_of result) (length_of result) frame.new }
+) -> Result<usize, Refusal>
+    requires { IsMeasured table.now.ty.now table.now.entries.now }
+    ensures part_edit { PartEdit table.now.ty.now frame.old path.now value.now (number_of result) (length_of result) frame.new }
+    ensures edited { Edited after table.now.ty.now frame.old path.now value.now (number_of result) (length_of result) frame.new }
 {
-    match read {
-        Read::Refused(x) => Reply::Refused(x),
-        Read::Root(_) => {
-            let ends = &columns[..RECORDS];
-            let widths = &columns[RECORDS..];
-            edit_part(ty, ends, widths, frame, path, value, lefts)
-        }
-    }
+    type_is_bytes(table.ty);
+    edit_part(table, frame, path, value)
 }
 
 // Searches a day file, frames of one type end to end, for one whose part at a path is a value, and answers its index, from 0, or that there is none.
 pub fn search(
-    ty: &[u8],
-    read: Read,
-    columns: &[usize],
-    lefts: &Lefts,
+    table: &Table<'_>,
     day: &[u8],
     path: &[u8],
     value: &[u8],
-) -> Found
-    requires type_read { TypeRead true ty.now read columns.now }
-    requires lefts_value { lefts.now ≡ left_sizes }
-    ensures { Search ty.now day.now path.now value.now (found_number result) (found_at result) }
+) -> Result<Option<usize>, Refusal>
+    requires { IsMeasured table.now.ty.now table.now.entries.now }
+    ensures { Search table.now.ty.now day.now path.now value.now (number_of result) (found_at result) }
 {
-    match read {
-        Read::Refused(x) => Found::Refused(x),
-        Read::Root(_) => {
-            let ends = &columns[..RECORDS];
-            let widths = &columns[RECORDS..];
-            search_day(ty, ends, widths, day, path, value, lefts)
-        }
-    }
+    search_day(table, day, path, value)
 }

@@ -1,5 +1,5 @@
 -- What is known of a place in a frame: a value of the type at a record of the type file stands there, from a bit on.
-use Rattle.std.specs.Prelude.{◌≡◌, false, List, ℕ, ◌+◌, length}
+use Rattle.std.specs.Prelude.{◌≡◌, false, List, ℕ, ◌+◌, length, Option as Optional, Some, None}
 use Rattle.std.proofs.Math.Option.{Option, none, some}
 use Rattle.model.specs.Types.{Ty}
 use Rattle.model.specs.Lowering.{lower}
@@ -9,8 +9,7 @@ use Rattle.model.specs.Parts.{Part}
 use Rattle.types.specs.Trees.{tree}
 use Rattle.types.specs.Steps.{Given}
 use Rattle.bits.specs.Bits.{bits_at, Inside}
-use Rattle.part.specs.declared.Place.{Place}
-use Rattle.part.specs.declared.Place.TheVariants.{At, Nowhere}
+use Rattle.part.specs.declared.Spot.{Spot}
 
 -- the value v of the type t, which is the one at record p with d levels from there on, stands from a bit on
 pub record Holding (d : ℕ) (s E : List ℕ) (p : ℕ) (fr : List ℕ) (bit : ℕ) (t : Ty) (v : Value t) : Type 0 where
@@ -42,6 +41,6 @@ pub record Reached (s E : List ℕ) {X : Type 0} (o : Option (Part X)) (bit p d 
   pub begins : b ≡ bit + length part.ahead
 
 -- a place was found exactly where there is a part
-abbrev pub Leads : (s E : List ℕ) {X : Type 0} → Option (Part X) → ℕ → Place → Type 0
-Leads s E o bit Nowhere = o ≡ none
-Leads s E o bit (At p d b) = Reached s E o bit p d b
+abbrev pub Leads : (s E : List ℕ) {X : Type 0} → Option (Part X) → ℕ → Optional Spot → Type 0
+Leads s E o bit None = o ≡ none
+Leads s E o bit (Some x) = Reached s E o bit x.at x.level x.bit

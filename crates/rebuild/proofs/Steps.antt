@@ -1,13 +1,12 @@
 -- The steps of the readers, in the form in which the code's needs ask them.
-use mathlib.Core.Path.{◌≡◌, refl, sym, ap, ap₂, subst, ◌∙◌}
+use Rattle.std.specs.Prelude.{Option, Some, None}
+use mathlib.Core.Path.{◌≡◌, refl, sym, ap, ap₂, ◌∙◌}
 use mathlib.Core.List.{List, []}
 use Prim.Native.Nat.{ℕ, ◌+◌, ◌-◌, ◌≤◌}
 use native.Mathlib.Nat.{zero-add}
 use native.Mathlib.Omega.{arith}
 use lib.ListN.{get_or}
 use Rattle.num.specs.declared.NonZeroPow2Usize.{NonZeroPow2Usize}
-use Rattle.num.specs.declared.Bound.{Bound}
-use Rattle.num.specs.declared.Bound.TheVariants as bounds
 use Rattle.num.specs.Powers.{half_bound}
 use Rattle.model.specs.Balanced.{btree_split_index}
 use Rattle.types.specs.declared.Head.{Head}
@@ -18,12 +17,11 @@ use Rattle.rebuild.specs.declared.Form.TheVariants as form
 use Rattle.rebuild.specs.declared.Parts.{Parts}
 use Rattle.rebuild.specs.declared.Parts.TheVariants.{Bits, Copies, Types}
 use Rattle.rebuild.specs.declared.Read.{Read}
-use Rattle.rebuild.specs.declared.Read.TheVariants.{Of, Not}
 use Rattle.rebuild.specs.Places.{units, pairs, passes, bit, at_places}
-use Rattle.rebuild.specs.Reads.{Reader, plus, counts, reader}
+use Rattle.rebuild.specs.Reads.{Reader, read_to, plus, counts, reader}
 use Rattle.structural.specs.Forms.{Stands}
 use Rattle.told.specs.Forms.{hops}
-use Rattle.rebuild.specs.Forms.{most_records, Few, Limits, count_of, surplus_of, form_of, skip, standing, part, balanced, chosen, block_of, listed}
+use Rattle.rebuild.specs.Forms.{Few, Limits, count_of, surplus_of, form_of, skip, standing, part, balanced, chosen, block_of, listed}
 use Rattle.rebuild.specs.Laws.Steps.{sum_left, sum_right, sum_no, pair_no, pair_stop, pair_on}
 use Rattle.rebuild.specs.Laws.Forms.{balanced_none, balanced_one, balanced_step, chosen_one, chosen_step, block_sum, as_formed, as_product, as_sum, as_list, as_payload}
 use Rattle.rebuild.specs.Laws.Lists.{list_two, Halved, list_more}
@@ -33,23 +31,23 @@ pub limits_down : {sh : List ℕ} {d : ℕ} → Limits sh d → Limits sh (d - 1
 limits_down l = let m = l.low in record { short = l.short; low = omega arith }
 
 -- nothing more
-plus_none : (x : Read) → plus 0 0 x ≡ x
-plus_none (Of e n k) = ap₂ (Of e) (zero-add n) (zero-add k)
-plus_none Not = refl
+plus_none : (x : Option Read) → plus 0 0 x ≡ x
+plus_none (Some r) = ap₂ (read_to r.next) (zero-add r.records) (zero-add r.surplus)
+plus_none None = refl
 
 -- what reading gives at one place
-here : {r t : Reader} (x : Read) (p : ℕ) → r ≡ t → x ≡ t p → x ≡ r p
+here : {r t : Reader} (x : Option Read) (p : ℕ) → r ≡ t → x ≡ t p → x ≡ r p
 here x p e h = h ∙ ap (λ (f : Reader). f p) (sym e)
 
 -- RECORDS
 
 module _ {d : ℕ} {s E : List ℕ} {p : ℕ} (g : Stands d s E p) where
   module _ (sh : List ℕ) (h : Head) (f : Form) (e : h ≡ head_at s p) (i : Fair h) (j : f ≡ form_of h) where
-    pub record_refused : (q : ℕ) → f ≡ form.Refused → Not ≡ standing (reader sh) d s p q
+    pub record_refused : (q : ℕ) → f ≡ form.Refused → None ≡ standing (reader sh) d s p q
     unfolding reader at_places counts
-    record_refused q k = here Not q (as_formed g (reader sh) h f e i j form.Refused k) refl
+    record_refused q k = here None q (as_formed g (reader sh) h f e i j form.Refused k) refl
 
-    module _ (q : ℕ) (x z : Read) where
+    module _ (q : ℕ) (x z : Option Read) where
       pub record_product : (k : Parts) (n : ℕ) → f ≡ form.Product k n → x ≡ balanced (reader sh) k (d - 1) s E n (p + 1) q → z ≡ plus 1 0 x → z ≡ standing (reader sh) d s p q
       unfolding reader at_places counts
       record_product k n o u v = here z q (as_product g (reader sh) h f e i j k n o).same (v ∙ ap (plus 1 0) u)
@@ -62,12 +60,12 @@ module _ {d : ℕ} {s E : List ℕ} {p : ℕ} (g : Stands d s E p) where
       unfolding reader at_places counts
       record_list b o u v = here z q (as_list g (reader sh) h f e i j b o).same (v ∙ ap (plus 1 0) u)
 
-    pub record_payload : (q : ℕ) (x : Read) (n : ℕ) → f ≡ form.Payload n → x ≡ balanced (reader sh) Types (d - 1) s E n (p + 1) q → x ≡ standing (reader sh) d s p q
+    pub record_payload : (q : ℕ) (x : Option Read) (n : ℕ) → f ≡ form.Payload n → x ≡ balanced (reader sh) Types (d - 1) s E n (p + 1) q → x ≡ standing (reader sh) d s p q
     record_payload q x n o u = here x q (as_payload g (reader sh) h f e i j n o).same u
 
 -- HOW MANY
 
-module _ (sh : List ℕ) (d : ℕ) (s : List ℕ) (p : ℕ) (x : Read) where
+module _ (sh : List ℕ) (d : ℕ) (s : List ℕ) (p : ℕ) (x : Option Read) where
   pub product_few : (k : Parts) (E : List ℕ) (n q : ℕ) → x ≡ balanced (reader sh) k d s E n q p → Limits sh d → Few (count_of x) (surplus_of x)
   product_few k E n q e l = few_product sh d s p x l k E n q e
 
@@ -80,25 +78,9 @@ module _ (sh : List ℕ) (d : ℕ) (s : List ℕ) (p : ℕ) (x : Read) where
   pub block_small : (n q : ℕ) → x ≡ block_of (reader sh) d s n q p → Limits sh d → Few (count_of x) (surplus_of x)
   block_small n q e l = few_block sh d s p x l n q e
 
-  module _ (m c i : ℕ) (o : x ≡ Of m c i) where
-    few : Few (count_of x) (surplus_of x) → Few c i
-    few f = subst (λ y. Few (count_of y) (surplus_of y)) o f
-
-    pub left_few : (k : Parts) (E : List ℕ) (n q : ℕ) → x ≡ balanced (reader sh) k d s E n q p → Limits sh d → c ≤ most_records
-    left_few k E n q e l = (few (few_product sh d s p x l k E n q e)).records
-
-    pub left_over : (k : Parts) (E : List ℕ) (n q : ℕ) → x ≡ balanced (reader sh) k d s E n q p → Limits sh d → i ≤ most_records
-    left_over k E n q e l = (few (few_product sh d s p x l k E n q e)).surplus
-
-    pub block_few : (n q : ℕ) → x ≡ block_of (reader sh) d s n q p → Limits sh d → c ≤ most_records
-    block_few n q e l = (few (few_block sh d s p x l n q e)).records
-
-    pub block_over : (n q : ℕ) → x ≡ block_of (reader sh) d s n q p → Limits sh d → i ≤ most_records
-    block_over n q e l = (few (few_block sh d s p x l n q e)).surplus
-
 -- PARTS
 
-module _ (sh : List ℕ) (k : Parts) (d : ℕ) (s : List ℕ) (q p : ℕ) (x : Read) where
+module _ (sh : List ℕ) (k : Parts) (d : ℕ) (s : List ℕ) (q p : ℕ) (x : Option Read) where
   pub part_bit : k ≡ Bits → x ≡ bit counts sh p → x ≡ part (reader sh) k d s q p
   unfolding reader at_places counts
   part_bit e h = rw e h
@@ -112,80 +94,80 @@ module _ (sh : List ℕ) (k : Parts) (d : ℕ) (s : List ℕ) (q p : ℕ) (x : R
 -- PRODUCTS
 
 module _ (sh : List ℕ) (k : Parts) (d : ℕ) (s E : List ℕ) (n q p : ℕ) where
-  pub product_none : (x : Read) → n ≡ 0 → x ≡ passes counts sh p → x ≡ balanced (reader sh) k d s E n q p
+  pub product_none : (x : Option Read) → n ≡ 0 → x ≡ passes counts sh p → x ≡ balanced (reader sh) k d s E n q p
   unfolding reader at_places counts
   product_none x e h = here x p (balanced_none (reader sh) k d s E n q e) h
 
-  pub product_one : (x : Read) → n ≡ 1 → x ≡ part (reader sh) k d s q p → x ≡ balanced (reader sh) k d s E n q p
+  pub product_one : (x : Option Read) → n ≡ 1 → x ≡ part (reader sh) k d s q p → x ≡ balanced (reader sh) k d s E n q p
   product_one x e h = here x p (balanced_one (reader sh) k d s E n q e) h
 
   module _ (b : ℕ) (h : b ≡ get_or sh p 4) (z : n ≡ 0 → ⊥) (o : n ≡ 1 → ⊥) where
-    pub product_no : (b ≡ 3 → ⊥) → Not ≡ balanced (reader sh) k d s E n q p
+    pub product_no : (b ≡ 3 → ⊥) → None ≡ balanced (reader sh) k d s E n q p
     unfolding reader at_places counts
-    product_no f = here Not p (balanced_step (reader sh) k d s E n (btree_split_index n) q refl (omega arith)) (pair_no sh p b h _ _ f)
+    product_no f = here None p (balanced_step (reader sh) k d s E n (btree_split_index n) q refl (omega arith)) (pair_no sh p b h _ _ f)
 
-    module _ (few : ℕ) (e : few ≡ btree_split_index n) (f : b ≡ 3) (x : Read) (i : x ≡ balanced (reader sh) k d s E few q (p + 1)) where
-      pub product_stop : x ≡ Not → Not ≡ balanced (reader sh) k d s E n q p
+    module _ (few : ℕ) (e : few ≡ btree_split_index n) (f : b ≡ 3) where
+      pub product_stop : None ≡ balanced (reader sh) k d s E few q (p + 1) → None ≡ balanced (reader sh) k d s E n q p
       unfolding reader at_places counts
-      product_stop j = here Not p (balanced_step (reader sh) k d s E n few q e (omega arith)) (pair_stop sh p b h _ _ x f i j)
+      product_stop i = here None p (balanced_step (reader sh) k d s E n few q e (omega arith)) (pair_stop sh p b h _ _ f i)
 
-      pub product_on : (m c a : ℕ) → x ≡ Of m c a → (rest : ℕ) → rest ≡ skip k E few q → (y w : Read) → y ≡ balanced (reader sh) k d s E (n - few) rest m → w ≡ plus c a y → w ≡ balanced (reader sh) k d s E n q p
+      pub product_on : (l : Read) → Some l ≡ balanced (reader sh) k d s E few q (p + 1) → (rest : ℕ) → rest ≡ skip k E few q → (y w : Option Read) → y ≡ balanced (reader sh) k d s E (n - few) rest l.next → w ≡ plus l.records l.surplus y → w ≡ balanced (reader sh) k d s E n q p
       unfolding reader at_places counts
-      product_on m c a j rest r y w u v = here w p (balanced_step (reader sh) k d s E n few q e (omega arith)) (pair_on sh p b h _ _ x y w m c a f i j (u ∙ ap (λ a. balanced (reader sh) k d s E (n - few) a m) r) v)
+      product_on l i rest r y w u v = here w p (balanced_step (reader sh) k d s E n few q e (omega arith)) (pair_on sh p b h _ _ l y w f i (u ∙ ap (λ a. balanced (reader sh) k d s E (n - few) a l.next) r) v)
 
 -- SUMS
 
 module _ (sh : List ℕ) (d : ℕ) (s E : List ℕ) (n q p : ℕ) where
-  pub chosen_first : (x : Read) → n ≡ 1 → x ≡ standing (reader sh) d s q p → x ≡ chosen (reader sh) d s E n q p
+  pub chosen_first : (x : Option Read) → n ≡ 1 → x ≡ standing (reader sh) d s q p → x ≡ chosen (reader sh) d s E n q p
   chosen_first x e h = here x p (chosen_one (reader sh) d s E n q e) h
 
   module _ (b few : ℕ) (h : b ≡ get_or sh p 4) (l : 1 ≤ n) (o : n ≡ 1 → ⊥) (e : few ≡ btree_split_index n) where
-    pub chosen_left : (x : Read) → b ≡ 1 → x ≡ chosen (reader sh) d s E few q (p + 1) → x ≡ chosen (reader sh) d s E n q p
+    pub chosen_left : (x : Option Read) → b ≡ 1 → x ≡ chosen (reader sh) d s E few q (p + 1) → x ≡ chosen (reader sh) d s E n q p
     unfolding reader at_places counts
     chosen_left x f i = here x p (chosen_step (reader sh) d s E n few q e (omega arith)) (sum_left sh p b h _ _ x f i)
 
-    pub chosen_right : (x : Read) (rest : ℕ) → b ≡ 2 → rest ≡ hops E few q → x ≡ chosen (reader sh) d s E (n - few) rest (p + 1) → x ≡ chosen (reader sh) d s E n q p
+    pub chosen_right : (x : Option Read) (rest : ℕ) → b ≡ 2 → rest ≡ hops E few q → x ≡ chosen (reader sh) d s E (n - few) rest (p + 1) → x ≡ chosen (reader sh) d s E n q p
     unfolding reader at_places counts
     chosen_right x rest f r i = here x p (chosen_step (reader sh) d s E n few q e (omega arith)) (sum_right sh p b h _ _ x f (i ∙ ap (λ a. chosen (reader sh) d s E (n - few) a (p + 1)) r))
 
-    pub chosen_no : (b ≡ 1 → ⊥) → (b ≡ 2 → ⊥) → Not ≡ chosen (reader sh) d s E n q p
+    pub chosen_no : (b ≡ 1 → ⊥) → (b ≡ 2 → ⊥) → None ≡ chosen (reader sh) d s E n q p
     unfolding reader at_places counts
-    chosen_no f g = here Not p (chosen_step (reader sh) d s E n few q e (omega arith)) (sum_no sh p b h _ _ f g)
+    chosen_no f g = here None p (chosen_step (reader sh) d s E n few q e (omega arith)) (sum_no sh p b h _ _ f g)
 
 -- LISTS
 
 module _ (sh : List ℕ) (d : ℕ) (s : List ℕ) (n q p b : ℕ) (h : b ≡ get_or sh p 4) where
-  pub block_left : (x : Read) → b ≡ 1 → x ≡ units counts sh (p + 1) → x ≡ block_of (reader sh) d s n q p
+  pub block_left : (x : Option Read) → b ≡ 1 → x ≡ units counts sh (p + 1) → x ≡ block_of (reader sh) d s n q p
   unfolding reader at_places counts
   block_left x e f = here x p (block_sum (reader sh) d s [] n q) (sum_left sh p b h _ _ x e f)
 
-  pub block_right : (x : Read) (E : List ℕ) → b ≡ 2 → x ≡ balanced (reader sh) Copies d s E n q (p + 1) → x ≡ block_of (reader sh) d s n q p
+  pub block_right : (x : Option Read) (E : List ℕ) → b ≡ 2 → x ≡ balanced (reader sh) Copies d s E n q (p + 1) → x ≡ block_of (reader sh) d s n q p
   unfolding reader at_places counts
   block_right x E e f = here x p (block_sum (reader sh) d s E n q) (sum_right sh p b h _ _ x e f)
 
-  pub block_no : (b ≡ 1 → ⊥) → (b ≡ 2 → ⊥) → Not ≡ block_of (reader sh) d s n q p
+  pub block_no : (b ≡ 1 → ⊥) → (b ≡ 2 → ⊥) → None ≡ block_of (reader sh) d s n q p
   unfolding reader at_places counts
-  block_no f g = here Not p (block_sum (reader sh) d s [] n q) (sum_no sh p b h _ _ f g)
+  block_no f g = here None p (block_sum (reader sh) d s [] n q) (sum_no sh p b h _ _ f g)
 
 module _ (sh : List ℕ) (d : ℕ) (s : List ℕ) {c : NonZeroPow2Usize} (q p : ℕ) (g : FairBound c) where
-  pub listed_two : (x y : Read) (o : Bound) → o ≡ half_bound c.0 → o ≡ bounds.Not → x ≡ block_of (reader sh) d s 1 q p → y ≡ plus 0 0 x → y ≡ listed (reader sh) d s c q p
+  pub listed_two : (x y : Option Read) (o : Option NonZeroPow2Usize) → o ≡ half_bound c.0 → o ≡ None → x ≡ block_of (reader sh) d s 1 q p → y ≡ plus 0 0 x → y ≡ listed (reader sh) d s c q p
   listed_two x y o u v f h = here y p (list_two (reader sh) d s q g (sym v ∙ u)) (h ∙ plus_none x ∙ f)
 
-  module _ (o : Bound) (u : o ≡ half_bound c.0) (a : NonZeroPow2Usize) (v : o ≡ bounds.Of a) where
+  module _ (o : Option NonZeroPow2Usize) (u : o ≡ half_bound c.0) (a : NonZeroPow2Usize) (v : o ≡ Some a) where
     pub halved : Halved (reader sh) c a d s q
     halved = list_more (reader sh) d s q g (sym v ∙ u)
 
-  module _ (o : Bound) (u : o ≡ half_bound c.0) (a : NonZeroPow2Usize) (v : o ≡ bounds.Of a) (b : ℕ) (h : b ≡ get_or sh p 4) where
+  module _ (o : Option NonZeroPow2Usize) (u : o ≡ half_bound c.0) (a : NonZeroPow2Usize) (v : o ≡ Some a) (b : ℕ) (h : b ≡ get_or sh p 4) where
     split : listed (reader sh) d s c q ≡ pairs counts sh (block_of (reader sh) d s a.0 q) (listed (reader sh) d s a q)
     unfolding reader at_places counts
     split = (halved o u a v).same
 
-    pub listed_no : (b ≡ 3 → ⊥) → Not ≡ listed (reader sh) d s c q p
-    listed_no f = here Not p split (pair_no sh p b h _ _ f)
+    pub listed_no : (b ≡ 3 → ⊥) → None ≡ listed (reader sh) d s c q p
+    listed_no f = here None p split (pair_no sh p b h _ _ f)
 
-    module _ (f : b ≡ 3) (n : ℕ) (j : n ≡ a.0) (x : Read) (k : x ≡ block_of (reader sh) d s n q (p + 1)) where
-      pub listed_stop : x ≡ Not → Not ≡ listed (reader sh) d s c q p
-      listed_stop w = here Not p split (pair_stop sh p b h _ _ x f (k ∙ ap (λ r. block_of (reader sh) d s r q (p + 1)) j) w)
+    module _ (f : b ≡ 3) (n : ℕ) (j : n ≡ a.0) where
+      pub listed_stop : None ≡ block_of (reader sh) d s n q (p + 1) → None ≡ listed (reader sh) d s c q p
+      listed_stop k = here None p split (pair_stop sh p b h _ _ f (k ∙ ap (λ r. block_of (reader sh) d s r q (p + 1)) j))
 
-      pub listed_on : (m r g : ℕ) → x ≡ Of m r g → (y w : Read) → y ≡ listed (reader sh) d s a q m → w ≡ plus r g y → w ≡ listed (reader sh) d s c q p
-      listed_on m r g z y w i l = here w p split (pair_on sh p b h _ _ x y w m r g f (k ∙ ap (λ t. block_of (reader sh) d s t q (p + 1)) j) z i l)
+      pub listed_on : (l : Read) → Some l ≡ block_of (reader sh) d s n q (p + 1) → (y w : Option Read) → y ≡ listed (reader sh) d s a q l.next → w ≡ plus l.records l.surplus y → w ≡ listed (reader sh) d s c q p
+      listed_on l k y w i v = here w p split (pair_on sh p b h _ _ l y w f (k ∙ ap (λ t. block_of (reader sh) d s t q (p + 1)) j) i v)

@@ -1,5 +1,5 @@
 -- What is read at a record of a type file, part by part: a balanced product or sum of parts, or a list.
-use Rattle.std.specs.Prelude.{List, [], ◌∷◌, Bool, true, false, ℕ, zero, suc, ◌-◌, ◌≤◌, ◌<◌, length}
+use Rattle.std.specs.Prelude.{List, [], ◌∷◌, Bool, true, false, ℕ, zero, suc, ◌-◌, ◌≤◌, ◌<◌, length, Option, Some, None}
 use Rattle.num.specs.declared.NonZeroPow2Usize.{NonZeroPow2Usize}
 use Rattle.num.specs.Powers.{bound, bound_log2}
 use Rattle.model.specs.Types.{size}
@@ -15,7 +15,6 @@ use Rattle.rebuild.specs.declared.Form.TheVariants as form
 use Rattle.rebuild.specs.declared.Parts.{Parts}
 use Rattle.rebuild.specs.declared.Parts.TheVariants.{Bits, Copies, Types}
 use Rattle.rebuild.specs.declared.Read.{Read}
-use Rattle.rebuild.specs.declared.Read.TheVariants.{Of, Not}
 use Rattle.rebuild.specs.Kinds.{Readers, bits, products, choices, blocks, lists, reads, readers}
 
 -- no value read has more records than this: 33 for each of the shape's
@@ -27,13 +26,13 @@ pub record Limits (sh : List ℕ) (d : ℕ) : Type 0 where
   pub short : length sh ≤ 65536
   pub low : d ≤ 32
 
-abbrev pub count_of : Read → ℕ
-count_of (Of e n k) = n
-count_of Not = 0
+abbrev pub count_of : Option Read → ℕ
+count_of (Some r) = r.records
+count_of None = 0
 
-abbrev pub surplus_of : Read → ℕ
-surplus_of (Of e n k) = k
-surplus_of Not = 0
+abbrev pub surplus_of : Option Read → ℕ
+surplus_of (Some r) = r.surplus
+surplus_of None = 0
 
 -- so many records of the value, and so much surplus, are no more than that
 pub record Few (n k : ℕ) : Type 0 where

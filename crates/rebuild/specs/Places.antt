@@ -1,7 +1,5 @@
 -- Readers over the places of a shape file: which records each of them takes. What it answers then is left open (`Answers`): `Reads` counts, `shape_clean` copies.
-use Rattle.std.specs.Prelude.{List, ℕ, zero, suc, ◌+◌, get_or}
-use Rattle.array.specs.declared.TreeEnd.{TreeEnd}
-use Rattle.array.specs.declared.TreeEnd.TheVariants.{At, Nothing}
+use Rattle.std.specs.Prelude.{List, ℕ, zero, suc, ◌+◌, get_or, Option, Some, None}
 use Rattle.array.specs.Ends.{tree_end_of}
 use Rattle.rebuild.specs.Kinds.{Readers}
 
@@ -40,9 +38,9 @@ module _ {R : Type 0} (A : Answers R) where
   both (suc (suc (suc zero))) l r q = A.pairs (l q) r
   both (suc (suc (suc (suc b)))) l r q = A.nothing
 
-  abbrev pub passed : ℕ → TreeEnd → R
-  passed p (At e) = A.tree p e
-  passed p Nothing = A.nothing
+  abbrev pub passed : ℕ → Option ℕ → R
+  passed p (Some e) = A.tree p e
+  passed p None = A.nothing
 
   module _ (s : List ℕ) where
     -- a unit and nothing else; the record at a place is 4, which is none, behind the last

@@ -37,10 +37,8 @@ fn write_zeros(out: &mut [u8])
     requires { 36 ≤ length out.old }
     ensures { out.new ≡ put (zeros 36) out.old }
 {
-    let mut i: usize = 0;
-    while i < 36 {
+    for i in 0..36 {
         out[i] = 0;
-        i += 1;
     }
 }
 

@@ -9,7 +9,7 @@
 // The result of `room` and of `shape_records` are the numbers that they tell, three bytes each.
 #![tactic(auto)]
 
-ghost use Rattle.std.specs.Prelude.{◌+◌, ◌≤◌, ◌<◌, ◌≡◌, length};
+ghost use Rattle.std.specs.Prelude.{◌+◌, ◌≤◌, ◌<◌, ◌≡◌, IfSome, length};
 ghost use Rattle.replay.specs.Cases.{Stands};
 
 use files::fill;
@@ -17,12 +17,11 @@ use niegluk::{
     clean_shape, lower, part_edit, part_read, read_frame, reconstruct, shape_records, write_frame,
     write_shape,
 };
-use reply::{Reply, TypeRoom, length_of, number, room_number, room_of};
+use reply::{Refusal, TypeRoom, number};
 use std::fs::File;
-use std::io;
 use std::io::Read;
 use std::rt::Files;
-use value::wide;
+use std::{fmt, io};
 
 // The bytes of a head.
 const HEAD: usize = 20;
@@ -33,29 +32,76 @@ const BODY: usize = 70000;
 // No buffer is longer.
 const ROOM: usize = 65536;
 
-// The entry that edits.
-const EDIT: u8 = 7;
+// The entries.
+#[derive(Clone, Copy, PartialEq, Eq)]
+enum Entry {
+    Lower,
+    WriteShape,
+    Reconstruct,
+    WriteFrame,
+    ReadFrame,
+    PartRead,
+    PartEdit,
+    CleanShape,
+    Room,
+    ShapeRecords,
+}
 
-// The entry that tells the room of a type.
-const TELLS_ROOM: u8 = 9;
+// By its number in the file.
+impl TryFrom<u8> for Entry {
+    type Error = ();
 
-// The entry that tells the records of a value's shape.
-const TELLS_RECORDS: u8 = 10;
+    fn try_from(b: u8) -> Result<Entry, ()> {
+        match b {
+            1 => Ok(Entry::Lower),
+            2 => Ok(Entry::WriteShape),
+            3 => Ok(Entry::Reconstruct),
+            4 => Ok(Entry::WriteFrame),
+            5 => Ok(Entry::ReadFrame),
+            6 => Ok(Entry::PartRead),
+            7 => Ok(Entry::PartEdit),
+            8 => Ok(Entry::CleanShape),
+            9 => Ok(Entry::Room),
+            10 => Ok(Entry::ShapeRecords),
+            _ => Err(()),
+        }
+    }
+}
 
-// The last entry.
-const LAST: u8 = 10;
+impl fmt::Display for Entry {
+    fn fmt<W: fmt::Write>(&self, f: &mut fmt::Formatter<W>) -> fmt::Result {
+        f.write_str(match self {
+            Entry::Lower => "lower",
+            Entry::WriteShape => "write_shape",
+            Entry::Reconstruct => "reconstruct",
+            Entry::WriteFrame => "write_frame",
+            Entry::ReadFrame => "read_frame",
+            Entry::PartRead => "part_read",
+            Entry::PartEdit => "part_edit",
+            Entry::CleanShape => "clean_shape",
+            Entry::Room => "room",
+            Entry::ShapeRecords => "shape_records",
+        })
+    }
+}
 
-// What the head of a case tells, and where its files start in the body. The entry is 0 where the case cannot be read, or is of no entry.
+// Where the five files of a case end in its body; the first starts with it.
 #[derive(Clone, Copy)]
-struct Case {
-    entry: u8,
-    number: u8,
-    room: usize,
+struct Ends {
+    ty: usize,
     file: usize,
     path: usize,
     value: usize,
     result: usize,
-    end: usize,
+}
+
+// What the head of a case tells.
+#[derive(Clone, Copy)]
+struct Case {
+    entry: Entry,
+    number: u8,
+    room: usize,
+    ends: Ends,
 }
 
 // How many cases an entry has, and how many of them differ.
@@ -65,57 +111,33 @@ struct Tally {
     differ: u64,
 }
 
-// The number of three bytes.
+// The number of three bytes, the highest first.
 fn number_at(s: &[u8], at: usize) -> usize
     requires { at + 3 ≤ length s.now }
     ensures { result < 16777216 }
 {
-    wide(s[at]) * 65536 + wide(s[at + 1]) * 256 + wide(s[at + 2])
+    u32::from_be_bytes([0, s[at], s[at + 1], s[at + 2]]) as usize
 }
 
-// A case that cannot be read: the file ends before it does, or its body is too long. What follows it is misread.
-fn unreadable() -> Case
-    ensures { Stands result 70000 }
+// Where the files of a case end, as its head tells; none where its body is too long.
+fn ends_of(head: &[u8; HEAD]) -> Option<Ends>
+    ensures { IfSome result (λ ends. Stands ends 70000) }
 {
-    Case {
-        entry: 0,
-        number: 0,
-        room: 0,
-        file: 0,
-        path: 0,
-        value: 0,
-        result: 0,
-        end: 0,
+    let ty = number_at(head, 5);
+    let file = ty + number_at(head, 8);
+    let path = file + number_at(head, 11);
+    let value = path + number_at(head, 14);
+    let result = value + number_at(head, 17);
+    if BODY < result {
+        return None;
     }
-}
-
-// The entry of a head's first byte.
-fn entry_of(b: u8) -> u8 {
-    if LAST < b { 0 } else { b }
-}
-
-// The case that a head tells.
-fn case_of(head: &[u8; HEAD]) -> Case
-    ensures { Stands result 70000 }
-{
-    let file = number_at(head, 5);
-    let path = file + number_at(head, 8);
-    let value = path + number_at(head, 11);
-    let result = value + number_at(head, 14);
-    let end = result + number_at(head, 17);
-    if BODY < end {
-        return unreadable();
-    }
-    Case {
-        entry: entry_of(head[0]),
-        number: head[1],
-        room: number_at(head, 2),
-        file: file,
-        path: path,
-        value: value,
-        result: result,
-        end: end,
-    }
+    Some(Ends {
+        ty,
+        file,
+        path,
+        value,
+        result,
+    })
 }
 
 // How many cases the file tells to have; none where it cannot be read.
@@ -136,19 +158,26 @@ fn fills<R: Read>(reader: &mut R, n: usize, buf: &mut [u8]) -> bool
     fill(reader, &mut buf[0..n]).unwrap_or(0) == n
 }
 
-// Reads the next case, and puts its body to the front of `body`.
-fn read_case<R: Read>(reader: &mut R, body: &mut [u8; BODY]) -> Case
-    ensures { Stands result 70000 }
+// Reads the next case, and puts its body to the front of `body`. None where it cannot be read: the file ends before it does, its body is too long, or it is of no entry.
+// What follows a body that is too long is misread.
+fn read_case<R: Read>(reader: &mut R, body: &mut [u8; BODY]) -> Option<Case>
+    ensures { IfSome result (λ c. Stands c.ends 70000) }
 {
     let mut head = [0u8; HEAD];
     if fill(reader, &mut head).unwrap_or(0) < HEAD {
-        return unreadable();
+        return None;
     }
-    let c = case_of(&head);
-    if !fills(reader, c.end, body) {
-        return unreadable();
+    let ends = ends_of(&head)?;
+    if !fills(reader, ends.result, body) {
+        return None;
     }
-    c
+    let entry = Entry::try_from(head[0]).ok()?;
+    Some(Case {
+        entry,
+        number: head[1],
+        room: number_at(&head, 2),
+        ends,
+    })
 }
 
 // Puts the bytes from one place to another over the front of `out`, where it has room for them.
@@ -162,65 +191,53 @@ fn put(s: &[u8], from: usize, to: usize, out: &mut [u8])
     }
 }
 
-// What the entry answers.
-fn call(entry: u8, ty: &[u8], file: &[u8], path: &[u8], value: &[u8], out: &mut [u8]) -> Reply {
-    match entry {
-        1 => lower(ty, out),
-        2 => write_shape(ty, file, out),
-        3 => reconstruct(ty, file, out),
-        4 => write_frame(ty, file, out),
-        5 => read_frame(ty, file, out),
-        6 => part_read(ty, file, path, out),
-        7 => part_edit(ty, out, path, value),
-        _ => clean_shape(ty, file, out),
+// What the case's entry answers to its files; of what `room` tells, the first number.
+fn answer(s: &[u8], c: Case, out: &mut [u8]) -> Result<usize, Refusal>
+    requires { Stands c.ends (length s.now) }
+{
+    let ends = c.ends;
+    let ty = &s[..ends.ty];
+    let file = &s[ends.ty..ends.file];
+    let path = &s[ends.file..ends.path];
+    let value = &s[ends.path..ends.value];
+    match c.entry {
+        Entry::Lower => lower(ty, out),
+        Entry::WriteShape => write_shape(ty, file, out),
+        Entry::Reconstruct => reconstruct(ty, file, out),
+        Entry::WriteFrame => write_frame(ty, file, out),
+        Entry::ReadFrame => read_frame(ty, file, out),
+        Entry::PartRead => part_read(ty, file, path, out),
+        Entry::PartEdit => part_edit(ty, out, path, value),
+        Entry::CleanShape => clean_shape(ty, file, out),
+        Entry::Room => niegluk::room(ty).map(|told| told.lowered),
+        Entry::ShapeRecords => shape_records(ty, file),
     }
 }
 
-// What the case's entry answers to its files.
-fn answer(s: &[u8], c: Case, out: &mut [u8]) -> Reply
-    requires { Stands c (length s.now) }
-{
-    let file = c.file;
-    let path = c.path;
-    let value = c.value;
-    let result = c.result;
-    call(
-        c.entry,
-        &s[0..file],
-        &s[file..path],
-        &s[path..value],
-        &s[value..result],
-        out,
-    )
-}
-
 // Does the reply tell this number and this length?
-fn tells(r: Reply, n: u8, len: usize) -> bool {
-    number(r) == n as u32 && length_of(r) == len
+fn tells(r: Result<usize, Refusal>, n: u8, len: usize) -> bool {
+    number(r) == u32::from(n) && r.unwrap_or(0) == len
 }
 
 // The lent bytes of an edit are its frame; all others are left as they are.
 fn lend(s: &[u8], c: Case, out: &mut [u8])
-    requires { Stands c (length s.now) }
+    requires { Stands c.ends (length s.now) }
 {
-    if c.entry == EDIT {
-        put(s, c.file, c.path, out);
+    if c.entry == Entry::PartEdit {
+        put(s, c.ends.ty, c.ends.file, out);
     }
 }
 
 // Does the entry answer the case's number and its result's length, and leave the result, and behind it what was lent?
 // Both buffers are lent alike: the entry writes to the one, the recorded result goes to the other.
 fn agrees(s: &[u8], c: Case, out: &mut [u8], told: &mut [u8]) -> bool
-    requires { Stands c (length s.now) }
+    requires { Stands c.ends (length s.now) }
 {
     lend(s, c, out);
     lend(s, c, told);
-    put(s, c.result, c.end, told);
+    put(s, c.ends.value, c.ends.result, told);
     let r = answer(s, c, out);
-    if !tells(r, c.number, c.end - c.result) {
-        return false;
-    }
-    &*out == &*told
+    tells(r, c.number, c.ends.result - c.ends.value) && &*out == &*told
 }
 
 // The number of three bytes at a place of a result; 0 where the result ends before it, as that of a refusal does.
@@ -240,28 +257,19 @@ fn is_told(x: TypeRoom, res: &[u8]) -> bool {
 
 // Does `room` answer the case's number and the numbers of its result?
 fn room_agrees(s: &[u8], c: Case) -> bool
-    requires { Stands c (length s.now) }
+    requires { Stands c.ends (length s.now) }
 {
-    let file = c.file;
-    let result = c.result;
-    let end = c.end;
-    let r = niegluk::room(&s[0..file]);
-    if room_number(r) != c.number as u32 {
-        return false;
-    }
-    is_told(room_of(r), &s[result..end])
+    let ends = c.ends;
+    let r = niegluk::room(&s[..ends.ty]);
+    number(r) == u32::from(c.number) && is_told(r.unwrap_or_default(), &s[ends.value..ends.result])
 }
 
 // Does `shape_records` answer the case's number and the number of its result?
 fn records_agree(s: &[u8], c: Case) -> bool
-    requires { Stands c (length s.now) }
+    requires { Stands c.ends (length s.now) }
 {
-    let file = c.file;
-    let path = c.path;
-    let result = c.result;
-    let end = c.end;
-    let r = shape_records(&s[0..file], &s[file..path]);
-    tells(r, c.number, told_at(&s[result..end], 0))
+    let r = answer(s, c, &mut []);
+    tells(r, c.number, told_at(&s[c.ends.value..c.ends.result], 0))
 }
 
 // A buffer before it is lent.
@@ -271,68 +279,77 @@ fn filled() -> [u8; ROOM]
     [0xA5; ROOM]
 }
 
-// Does the case end as it is recorded?
-fn holds(body: &[u8; BODY], c: Case) -> bool
-    requires { Stands c 70000 }
+// Does an entry that writes agree? Not where more bytes are to be lent than there are.
+fn writer_agrees(body: &[u8; BODY], c: Case) -> bool
+    requires { Stands c.ends 70000 }
 {
-    if c.entry == TELLS_ROOM {
-        return room_agrees(body, c);
-    }
-    if c.entry == TELLS_RECORDS {
-        return records_agree(body, c);
-    }
     let room = c.room;
     if ROOM < room {
         return false;
     }
     let mut out = filled();
     let mut told = filled();
-    agrees(body, c, &mut out[0..room], &mut told[0..room])
+    agrees(body, c, &mut out[..room], &mut told[..room])
 }
 
-// Counts the cases of an entry, and those that differ.
-fn count(rt: &impl Files, entry: u8) -> io::Result<Tally> {
+// Does the case end as it is recorded?
+fn holds(body: &[u8; BODY], c: Case) -> bool
+    requires { Stands c.ends 70000 }
+{
+    match c.entry {
+        Entry::Room => room_agrees(body, c),
+        Entry::ShapeRecords => records_agree(body, c),
+        _ => writer_agrees(body, c),
+    }
+}
+
+// Counts the cases of an entry, and those that differ; of none, the cases that cannot be read.
+fn count(rt: &impl Files, entry: Option<Entry>) -> io::Result<Tally> {
     let mut file = File::open(rt, "cases")?;
     let n = read_count(&mut file);
     let mut body = [0u8; BODY];
     let mut cases = 0;
     let mut differ = 0;
-    let mut i = 0;
-    while i < n {
-        let c = read_case(&mut file, &mut body);
-        if c.entry == entry {
+    for i in 0..n {
+        let case = read_case(&mut file, &mut body);
+        if case.map(|c| c.entry) == entry {
             cases += 1;
-            if !holds(&body, c) {
+            if let Some(c) = case
+                && !holds(&body, c)
+            {
                 differ += 1;
             }
         }
-        i += 1;
     }
     Ok(Tally { cases, differ })
 }
 
 // Prints the line of an entry.
-fn show(rt: &(impl Files + Print), entry: u8, name: &str) -> io::Result<()> {
-    let Tally { cases, differ } = count(rt, entry)?;
-    println!(rt; "{name} {cases} cases, {differ} differ")
+fn show(rt: &(impl Files + Print), entry: Entry) -> io::Result<()> {
+    let Tally { cases, differ } = count(rt, Some(entry))?;
+    println!(rt; "{entry} {cases} cases, {differ} differ")
 }
 
 // Prints how many cases cannot be read.
 fn show_unreadable(rt: &(impl Files + Print)) -> io::Result<()> {
-    let Tally { cases, .. } = count(rt, 0)?;
+    let Tally { cases, .. } = count(rt, None)?;
     println!(rt; "unreadable {cases}")
 }
 
 fn main(rt: HostRuntime) -> io::Result<()> {
-    show(&rt, 1, "lower")?;
-    show(&rt, 2, "write_shape")?;
-    show(&rt, 3, "reconstruct")?;
-    show(&rt, 4, "write_frame")?;
-    show(&rt, 5, "read_frame")?;
-    show(&rt, 6, "part_read")?;
-    show(&rt, 7, "part_edit")?;
-    show(&rt, 8, "clean_shape")?;
-    show(&rt, 9, "room")?;
-    show(&rt, 10, "shape_records")?;
+    for entry in [
+        Entry::Lower,
+        Entry::WriteShape,
+        Entry::Reconstruct,
+        Entry::WriteFrame,
+        Entry::ReadFrame,
+        Entry::PartRead,
+        Entry::PartEdit,
+        Entry::CleanShape,
+        Entry::Room,
+        Entry::ShapeRecords,
+    ] {
+        show(&rt, entry)?;
+    }
     show_unreadable(&rt)
 }

@@ -1,16 +1,11 @@
--- The table's number for each case of an answer.
+-- The table's number for each refusal, and the numbers of an answer.
 use Rattle.std.proofs.Math.Option.{Option, none, some}
-use Rattle.std.specs.Prelude.{ℕ}
+use Rattle.std.specs.Prelude.{ℕ, Option as Optional, Some, None, Result, Ok, Err}
+use Rattle.std.specs.Result.{result_unwrap_or}
 use Rattle.model.specs.Numbers.{type_length, type_too_long, bad_record, too_deep, not_one_type, never_stands, too_large, shape_too_long, not_one_tree, not_reconstructed, no_unit, frame_length, stray_bit, no_bytes, day_length, path_odd, no_such_part, value_length, not_one_value, integer_too_large, list_too_long, no_room}
 use Rattle.reply.specs.declared.Refusal.{Refusal}
 use Rattle.reply.specs.declared.Refusal.TheVariants.{TypeLength, TypeTooLong, BadRecord, TooDeep, NotOneType, NeverStands, TooLarge, ShapeTooLong, NotOneTree, NotReconstructed, NoUnit, FrameLength, StrayBit, NoBytes, DayLength, PathOdd, NoSuchPart, ValueLength, NotOneValue, IntegerTooLarge, ListTooLong, NoRoom}
-use Rattle.reply.specs.declared.Reply.{Reply}
-use Rattle.reply.specs.declared.Reply.TheVariants.{Done, Refused}
 use Rattle.reply.specs.declared.TypeRoom.{TypeRoom}
-use Rattle.reply.specs.declared.RoomReply.{RoomReply}
-use Rattle.reply.specs.declared.RoomReply.TheVariants as about_room
-use Rattle.reply.specs.declared.Found.{Found}
-use Rattle.reply.specs.declared.Found.TheVariants as about_search
 
 abbrev pub refusal_number : Refusal → ℕ
 refusal_number TypeLength = type_length
@@ -36,29 +31,21 @@ refusal_number IntegerTooLarge = integer_too_large
 refusal_number ListTooLong = list_too_long
 refusal_number NoRoom = no_room
 
-abbrev pub number_of : Reply → ℕ
-number_of (Done n) = 0
-number_of (Refused x) = refusal_number x
+-- the number of an answer: 0 where the operation is accepted
+abbrev pub number_of : {A : Type 0} → Result A Refusal → ℕ
+number_of (Ok x) = 0
+number_of (Err x) = refusal_number x
 
-abbrev pub length_of : Reply → ℕ
-length_of (Done n) = n
-length_of (Refused x) = 0
+-- its length: 0 where the operation is refused
+abbrev pub length_of : Result ℕ Refusal → ℕ
+length_of r = result_unwrap_or r 0
 
-abbrev pub room_number : RoomReply → ℕ
-room_number (about_room.Done room) = 0
-room_number (about_room.Refused x) = refusal_number x
-
-abbrev pub room_of : RoomReply → TypeRoom
-room_of (about_room.Done room) = room
-room_of (about_room.Refused x) = record { lowered = 0; bits = 0; shape = 0 }
-
-abbrev pub found_number : Found → ℕ
-found_number (about_search.At i) = 0
-found_number about_search.Nowhere = 0
-found_number (about_search.Refused x) = refusal_number x
+-- the room of an answer: three times 0 where the type is refused
+abbrev pub room_of : Result TypeRoom Refusal → TypeRoom
+room_of r = result_unwrap_or r (record { lowered = 0; bits = 0; shape = 0 })
 
 -- the index that was found
-abbrev pub found_at : Found → Option ℕ
-found_at (about_search.At i) = some i
-found_at about_search.Nowhere = none
-found_at (about_search.Refused x) = none
+abbrev pub found_at : Result (Optional ℕ) Refusal → Option ℕ
+found_at (Ok (Some i)) = some i
+found_at (Ok None) = none
+found_at (Err x) = none

@@ -1,6 +1,6 @@
 -- What the program `job` prints of its two files (01, 'Along the edges', its last paragraph): the three lines, or the one of the first row that holds.
 -- A file over 65,536 bytes is 17 before all else; nothing else is, since the results always fit.
-use Rattle.std.specs.Prelude.{◌≡◌, true, false, List, ℕ, ◌≤◌, ltb, length}
+use Rattle.std.specs.Prelude.{◌≡◌, true, false, List, ℕ, ◌≤◌, ltb, length, Result}
 use Rattle.model.specs.Numbers.{no_room, most_shape_records}
 use Rattle.model.specs.Outcome.{Outcome, done, refused, ◌>>=◌, ◌>>◌, refuse}
 use Rattle.model.specs.Structural.{type_records}
@@ -12,11 +12,10 @@ use Rattle.model.specs.Operations.{lowering, lowered, shaped, framed}
 use Rattle.types.specs.Trees.{tree}
 use Rattle.types.specs.Steps.{Given}
 use Rattle.told.specs.Widths.{Wide}
-use Rattle.entries.specs.declared.Read.{Read}
-use Rattle.entries.specs.Answers.{TypeRead}
 use Rattle.structural.specs.Writing.{Wrote}
 use Rattle.io.specs.Counts.{IsPrefixLen}
 use Rattle.text.specs.Lines.{job_lines, refusal_line}
+use Rattle.reply.specs.declared.Refusal.{Refusal}
 
 -- the most bytes that a file may have
 abbrev pub most : ℕ
@@ -56,11 +55,6 @@ pub record Printable (s val out : List ℕ) : Type 0 where
   pub short_type : length s ≤ most
   pub short_value : length val ≤ most
   pub room : 140000 ≤ length out
-
--- the same, with the type file read
-pub record Prints (s : List ℕ) (r : Read) (C val out : List ℕ) : Type 0 where
-  pub read : TypeRead true s r C
-  pub printable : Printable s val out
 
 -- what is printed stands over the front of the buffer, and n counts its bytes
 pub record Reported (s val out out' : List ℕ) (n : ℕ) : Type 0 where

@@ -1,5 +1,5 @@
 -- What `job` prints, by what its writer knows at each of its answers.
-use Rattle.std.specs.Prelude.{◌≡◌, false, List, ℕ, ◌<◌, ◌≤◌, length, take}
+use Rattle.std.specs.Prelude.{◌≡◌, false, List, ℕ, ◌<◌, ◌≤◌, length, take, Result, Ok, Err}
 use Rattle.std.proofs.Math.Path.{refl}
 use Rattle.std.proofs.Common.{arith}
 use borrow.Author.Tests.{lt-ltb, le-ltb}
@@ -15,15 +15,11 @@ use Rattle.model.proofs.Laws.Sizes.{shape_size, length_type_records, frame_limit
 use Rattle.reply.specs.declared.Refusal.{Refusal}
 use Rattle.reply.specs.declared.Refusal.TheVariants as refusal
 use Rattle.reply.specs.Numbers.{refusal_number}
-use Rattle.types.specs.declared.TypeAnswer.{TypeAnswer}
-use Rattle.types.specs.declared.TypeAnswer.TheVariants.{Ok, Refused}
 use Rattle.types.specs.Trees.{tree}
 use Rattle.types.specs.Lows.{low}
 use Rattle.structural.specs.Forms as structural
 use Rattle.structural.specs.Writing.{Wrote}
 use Rattle.table.specs.Tabled.{Tabled}
-use Rattle.value.specs.declared.Checked.{Checked}
-use Rattle.value.specs.declared.Checked.TheVariants.{Next, Bad}
 use Rattle.value.specs.Check.{file_answer}
 use Rattle.told.specs.Forms as told
 use Rattle.shape.specs.Forms as shape
@@ -134,17 +130,17 @@ module _ (s val : List ℕ) where
   unfolding job_text job
   long_value l h = rw (le-ltb most (length s) l, lt-ltb most (length val) h) refl
 
-  module _ (l : length s ≤ most) (m : length val ≤ most) {E S W : List ℕ} {r : TypeAnswer} (p : Tabled s r E S W) where
-    pub bad_type : {x : Refusal} → r ≡ Refused x → job_text s val ≡ refusal_line (refusal_number x)
+  module _ (l : length s ≤ most) (m : length val ≤ most) {E S W : List ℕ} {r : Result ℕ Refusal} (p : Tabled s r E S W) where
+    pub bad_type : {x : Refusal} → r ≡ Err x → job_text s val ≡ refusal_line (refusal_number x)
     unfolding job_text job lowered
     bad_type e = rw (le-ltb most (length s) l, le-ltb most (length val) m, p.answer, e) refl
 
-    module _ {n : ℕ} (e : r ≡ Ok n) {c : Checked} (k : c ≡ file_answer (tree 32 s 0) val) where
-      pub bad_value : {x : Refusal} → c ≡ Bad x → job_text s val ≡ refusal_line (refusal_number x)
+    module _ {n : ℕ} (e : r ≡ Ok n) {c : Result (ℕ × ℕ) Refusal} (k : c ≡ file_answer (tree 32 s 0) val) where
+      pub bad_value : {x : Refusal} → c ≡ Err x → job_text s val ≡ refusal_line (refusal_number x)
       unfolding job_text job lowered shaped
       bad_value h = rw (le-ltb most (length s) l, le-ltb most (length val) m, lowers p e, value_refused (tree 32 s 0) val k h) refl
 
-      pub accepted : {i size : ℕ} → c ≡ Next i size → 1024 ≤ length W → Accepted s E W val
+      pub accepted : {i size : ℕ} → c ≡ Ok (i, size) → 1024 ≤ length W → Accepted s E W val
       accepted h w = let v = value_read (tree 32 s 0) val k h in record {
         short_type = l;
         short_value = m;

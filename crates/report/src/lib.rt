@@ -5,81 +5,69 @@
 ghost use Rattle.std.specs.Prelude.{◌≡◌, ◌≤◌, length};
 ghost use Rattle.io.specs.Counts.{IsPrefixLen};
 ghost use Rattle.structural.specs.Writing.{Wrote};
-ghost use Rattle.array.specs.Lefts.{left_sizes};
-ghost use Rattle.report.specs.Job.{job_text, Accepted, Printable, Prints, Reported};
+ghost use Rattle.types.specs.Entries.{ends, widths};
+ghost use Rattle.delivery.specs.Tables.{IsMeasured};
+ghost use Rattle.report.specs.Job.{job_text, Accepted, Printable, Reported};
 
-use array::{Lefts, left_sizes};
-use entries::{Entry, Read, read_type};
 use frame::write_frame;
 use reply::Refusal;
 use shape::write_shape;
 use structural::write_lowered;
-use table::RECORDS;
+use table::{RECORDS, tabulate};
 use text::{write_job, write_refused};
-use value::{Checked, check_file};
+use types::{Entry, Table};
+use value::check_file;
+
+// The levels that a type may have.
+const LEVELS: usize = 32;
 
 // The most bytes that a file may have.
 const MOST: usize = 65536;
 
 // Writes the three lines of a type that lowers and a value of it, and answers their length.
-fn write_accepted(
-    ty: &[u8],
-    ends: &[usize],
-    widths: &[usize],
-    val: &[u8],
-    out: &mut [u8],
-    lefts: &Lefts,
-) -> usize
-    requires accepted { Accepted ty.now ends.now widths.now val.now }
+fn write_accepted(table: &Table<'_>, val: &[u8], out: &mut [u8]) -> usize
+    requires accepted { Accepted table.now.ty.now (ends table.now.entries.now) (widths table.now.entries.now) val.now }
     requires in_bounds { 140000 ≤ length out.old }
-    requires lefts_value { lefts.now ≡ left_sizes }
-    ensures { Wrote (job_text ty.now val.now) out.old out.new result }
+    ensures { Wrote (job_text table.now.ty.now val.now) out.old out.new result }
 {
     let mut lowered = [0u8; 65536];
     let mut shape = [0u8; 65536];
     let mut frame = [0u8; 4096];
-    let n = write_lowered(ty, ends, 0, 32, &mut lowered, lefts);
-    let m = write_shape(ty, ends, val, &mut shape, lefts);
-    let k = write_frame(ty, ends, widths, val, &mut frame, lefts);
+    let n = write_lowered(table, 0, LEVELS, &mut lowered);
+    let m = write_shape(table, val, &mut shape);
+    let k = write_frame(table, val, &mut frame);
     write_job(&lowered[..n], &shape[..m], &frame[..k], out)
 }
 
-// Writes what `job` prints of a type file that was read and a value file, both of at most 65,536 bytes.
-fn report_read(
-    ty: &[u8],
-    read: Read,
-    columns: &[usize],
-    lefts: &Lefts,
-    val: &[u8],
-    out: &mut [u8],
-) -> usize
-    requires prints { Prints ty.now read columns.now val.now out.old }
-    requires lefts_value { lefts.now ≡ left_sizes }
-    ensures { Reported ty.now val.now out.old out.new result }
+// Writes what `job` prints of a type file that lowers and a value file, both of at most 65,536 bytes.
+fn report_value(table: &Table<'_>, val: &[u8], out: &mut [u8]) -> usize
+    requires measured { IsMeasured table.now.ty.now table.now.entries.now }
+    requires printable { Printable table.now.ty.now val.now out.old }
+    ensures { Reported table.now.ty.now val.now out.old out.new result }
 {
-    match read {
-        Read::Refused(x) => write_refused(x, out),
-        Read::Root(_) => {
-            let ends = &columns[..RECORDS];
-            let widths = &columns[RECORDS..];
-            match check_file(ty, ends, val, lefts) {
-                Checked::Bad(x) => write_refused(x, out),
-                Checked::Next(_, _) => write_accepted(ty, ends, widths, val, out, lefts),
-            }
-        }
+    match check_file(table, val) {
+        Err(why) => write_refused(why, out),
+        Ok(_) => write_accepted(table, val, out),
     }
 }
 
-// Writes what `job` prints of two files of at most 65,536 bytes. It owns the table of the type file and the left sizes.
+// Writes what `job` prints of two files of at most 65,536 bytes. It owns the table of the type file.
 fn report_type(ty: &[u8], val: &[u8], out: &mut [u8]) -> usize
     requires { Printable ty.now val.now out.old }
     ensures { Reported ty.now val.now out.old out.new result }
 {
-    let mut table = [Entry::NONE; 1024];
-    let mut columns = [0usize; 2048];
-    let lefts = left_sizes();
-    let read = read_type(ty, true, &mut table, &mut columns, &lefts);
-    report_read(ty, read, &columns, &lefts, val, out)
+    let mut entries = [Entry::default(); RECORDS];
+    match tabulate(ty, &mut entries) {
+        Err(x) => write_refused(x, out),
+        Ok(_) => report_value(
+            &Table {
+                ty,
+                entries: &entries,
+            },
+            val,
+            out,
+        ),
+    }
 }
 
 // Writes what `job` prints over the front of `out`, and answers its length.
@@ -88,10 +76,7 @@ pub fn report(ty: &[u8], val: &[u8], out: &mut [u8]) -> usize
     ensures wrote { Wrote (job_text ty.now val.now) out.old out.new result }
     ensures prefix_len { IsPrefixLen result out.new }
 {
-    if MOST < ty.len() {
-        return write_refused(Refusal::NoRoom, out);
-    }
-    if MOST < val.len() {
+    if MOST < ty.len() || MOST < val.len() {
         return write_refused(Refusal::NoRoom, out);
     }
     report_type(ty, val, out)

@@ -1,4 +1,5 @@
 -- The steps of the writers, in the form in which the code's needs ask them.
+use Rattle.std.specs.Prelude.{Option as Optional, Some, None}
 use mathlib.Core.Path.{◌≡◌, refl, sym, ap, ap₂, subst, ◌∙◌}
 use mathlib.Core.Bool.{Bool, true, false}
 use mathlib.Core.List.{List, [], ◌∷◌, ◌++◌}
@@ -11,8 +12,6 @@ use lib.Dec.{eqb}
 use lib.ListN.{length, get_or}
 use Rattle.model.proofs.Laws.Balanced.{Shares}
 use Rattle.num.specs.declared.NonZeroPow2Usize.{NonZeroPow2Usize}
-use Rattle.num.specs.declared.Bound.{Bound}
-use Rattle.num.specs.declared.Bound.TheVariants as bounds
 use Rattle.num.specs.Powers.{half_bound}
 use Rattle.num.specs.Laws.{half_one, half_is}
 use Rattle.model.specs.Options.{pick, map_o}
@@ -322,7 +321,7 @@ held_few side n {m} e = go (eqb side 1) e
 -- LISTS
 
 module _ (d : ℕ) (s sh : List ℕ) (b : NonZeroPow2Usize) (p q : ℕ) (out : List ℕ) (f : FairBound b) (g : ReadyNumbered (made_at sh (elements d s b p) q) out) where
-  module _ {x : Bound} (k : x ≡ half_bound b.0) (t : x ≡ bounds.Not) where
+  module _ {x : Optional NonZeroPow2Usize} (k : x ≡ half_bound b.0) (t : x ≡ None) where
     as_block : made_at sh (elements d s b p) q ≡ made_at sh (blocked d s 1 p) q
     as_block = list_two sh d s p q f (sym t ∙ k)
 
@@ -358,7 +357,7 @@ module _ (d : ℕ) (s sh : List ℕ) (b : NonZeroPow2Usize) (p q : ℕ) (out : L
       pub present_placed : {o : List ℕ} {next len : ℕ} → (m ≡ 0 → ⊥) → Placed (standing sh d s p (q + 1)) out o next len → PlacedNumbered (made_at sh (elements d s b p) q) 0 out o (record { number = 1; next = next; len = len })
       present_placed {o} {next} {len} z v = two_placed (subst (λ i. PlacedNumbered (made_at sh (blocked d s 1 p) q) 0 out o (record { number = i; next = next; len = len })) (held_one z) (held_placed d s sh 1 p q out two_ready e (one_placed Copies d s sh m p (q + 1) out held_two (held_one z) v)))
 
-  module _ {x : Bound} (k : x ≡ half_bound b.0) {h : NonZeroPow2Usize} (t : x ≡ bounds.Of h) where
+  module _ {x : Optional NonZeroPow2Usize} (k : x ≡ half_bound b.0) {h : NonZeroPow2Usize} (t : x ≡ Some h) where
     pub halves : Halves sh d s b h p q g.number g.recs g.end
     halves = list_more sh d s p q g.number g.recs g.end f (sym t ∙ k) g.there
 
@@ -417,18 +416,18 @@ module _ (d : ℕ) (s sh : List ℕ) (b : NonZeroPow2Usize) (p q : ℕ) (out : L
 
   -- the block at the front, of half the bound and behind so many pairs
   module _ {i m : ℕ} (e : i ≡ pairs_before (half_bound b.0)) (l : m ≡ b.0 / 2) where
-    front_two : bounds.Not ≡ half_bound b.0 → made_at sh (blocked d s m p) (q + i) ≡ made_at sh (blocked d s 1 p) q
+    front_two : None ≡ half_bound b.0 → made_at sh (blocked d s m p) (q + i) ≡ made_at sh (blocked d s 1 p) q
     front_two k = let a = e ∙ ap pairs_before (sym k) in ap₂ (λ n x. made_at sh (blocked d s n p) x) (l ∙ half_one b.0 (bound_range b f).0 k) (omega arith)
 
-    front_more : {h : NonZeroPow2Usize} → bounds.Of h ≡ half_bound b.0 → made_at sh (blocked d s m p) (q + i) ≡ made_at sh (blocked d s m p) (q + 1)
+    front_more : {h : NonZeroPow2Usize} → Some h ≡ half_bound b.0 → made_at sh (blocked d s m p) (q + i) ≡ made_at sh (blocked d s m p) (q + 1)
     front_more k = let a = e ∙ ap pairs_before (sym k) in ap (made_at sh (blocked d s m p)) (omega arith)
 
     front_ready : ReadyNumbered (made_at sh (blocked d s m p) (q + i)) out
     front_ready = go (half_bound b.0) refl
       where
-        go : (x : Bound) → x ≡ half_bound b.0 → ReadyNumbered (made_at sh (blocked d s m p) (q + i)) out
-        go bounds.Not k = ready_numbered_as (front_two k) (two_ready k refl)
-        go (bounds.Of h) k = ready_numbered_as (front_more k) (block_ready k refl (l ∙ half_is b.0 k))
+        go : (x : Optional NonZeroPow2Usize) → x ≡ half_bound b.0 → ReadyNumbered (made_at sh (blocked d s m p) (q + i)) out
+        go None k = ready_numbered_as (front_two k) (two_ready k refl)
+        go (Some h) k = ready_numbered_as (front_more k) (block_ready k refl (l ∙ half_is b.0 k))
 
     pub front_inside : q + i < length sh
     front_inside = block_starts d s sh m p (q + i) out front_ready
@@ -447,14 +446,14 @@ module _ (d : ℕ) (s sh : List ℕ) (b : NonZeroPow2Usize) (p q : ℕ) (out : L
       pub elements_ready : Ready (made_at sh (product Copies d s n p) (q + i + 1)) out
       elements_ready = held_ready d s sh m p (q + i) out front_ready c
 
-      module _ {o : List ℕ} {next len : ℕ} (v : Placed (made_at sh (product Copies d s n p) (q + i + 1)) out o next len) {x : Bound} (k : x ≡ half_bound b.0) where
+      module _ {o : List ℕ} {next len : ℕ} (v : Placed (made_at sh (product Copies d s n p) (q + i + 1)) out o next len) {x : Optional NonZeroPow2Usize} (k : x ≡ half_bound b.0) where
         front_placed : PlacedNumbered (made_at sh (blocked d s m p) (q + i)) 0 out o (record { number = n; next = next; len = len })
         front_placed = held_placed d s sh m p (q + i) out front_ready c v
 
-        pub alone_placed : x ≡ bounds.Not → PlacedNumbered (made_at sh (elements d s b p) q) 0 out o (record { number = n; next = next; len = len })
+        pub alone_placed : x ≡ None → PlacedNumbered (made_at sh (elements d s b p) q) 0 out o (record { number = n; next = next; len = len })
         alone_placed t = two_placed k t (placed_numbered_as (sym (front_two (sym t ∙ k))) front_placed)
 
-        module _ {h : NonZeroPow2Usize} (t : x ≡ bounds.Of h) where
+        module _ {h : NonZeroPow2Usize} (t : x ≡ Some h) where
           half_same : m ≡ h.0
           half_same = l ∙ half_is b.0 (sym t ∙ k)
 

@@ -1,9 +1,7 @@
 -- The records of the value that stands at a place of a shape file, as one of the type at a record of a type file, and the place after it.
 -- What is read is what the model's `reconstruct` gives of the tree that stands there.
-use Rattle.std.specs.Prelude.{◌≡◌, Bool, List, ℕ, ◌+◌, ◌≤◌, length, drop, eqb}
+use Rattle.std.specs.Prelude.{◌≡◌, Bool, List, ℕ, ◌+◌, ◌≤◌, length, drop, eqb, Option as Optional, Some, None}
 use Rattle.std.proofs.Math.Option.{Option, some}
-use Rattle.num.specs.declared.Bound.{Bound}
-use Rattle.num.specs.declared.Bound.TheVariants as bounds
 use Rattle.model.specs.Options.{pick, map_o, bind_o}
 use Rattle.model.specs.Bytes.{of_bits, in_bytes}
 use Rattle.model.specs.Structural.{SValue, shape_records}
@@ -14,6 +12,7 @@ use Rattle.bits.specs.Bits as bits
 use Rattle.record.specs.Marks.{written}
 use Rattle.record.specs.Trees.{part}
 use Rattle.restore.specs.declared.Numbered.{Numbered}
+use Rattle.num.specs.declared.NonZeroPow2Usize.{NonZeroPow2Usize}
 
 -- THE TREES OF A SHAPE FILE
 
@@ -36,9 +35,9 @@ standing sh d s p q = made_at sh (part d s p) q
 -- LISTS
 
 -- the pairs before a list's first block, by the half of its bound: with the bound 2 there is none
-abbrev pub pairs_before : Bound → ℕ
-pairs_before bounds.Not = 0
-pairs_before (bounds.Of h) = 1
+abbrev pub pairs_before : Optional NonZeroPow2Usize → ℕ
+pairs_before None = 0
+pairs_before (Some h) = 1
 
 -- how many elements a block of n holds, by its side: none with a left, else all
 unfoldable pub held : ℕ → ℕ → ℕ

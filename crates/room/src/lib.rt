@@ -6,17 +6,17 @@ ghost use Rattle.std.specs.Prelude.{◌≡◌, false, ◌+◌, ◌-◌, ◌*◌,
 ghost use Rattle.model.specs.Numbers.{most_shape_records};
 ghost use Rattle.model.specs.Room.{longest_shape};
 ghost use Rattle.num.specs.Powers.{bound_log2};
-ghost use Rattle.array.specs.Lefts.{left_sizes};
 ghost use Rattle.types.specs.Heads.{FairBound};
 ghost use Rattle.types.specs.Steps.{Given};
 ghost use Rattle.types.specs.Lows.{low};
 ghost use Rattle.structural.specs.Forms.{most_parts, standing, Stands, part, after, skip, balanced, GivenPart, GivenParts};
 ghost use Rattle.room.specs.Counting.{Small, joined, Counted};
+ghost use Rattle.types.specs.Entries.{ends};
 
-use array::{Lefts, btree_split_index};
+use array::btree_split_index;
 use num::NonZeroPow2Usize;
 use structural::{Form, Parts, are_same, form_of};
-use types::head_at;
+use types::Table;
 
 // The record after some parts, and the most records of a shape of what they make.
 #[derive(Clone, Copy)]
@@ -58,16 +58,15 @@ fn longest_list(most: usize, bound: NonZeroPow2Usize) -> usize
 
 // The most records of a shape of what stands at record `at`, a type or a Variant's payload, with `level` levels from there on.
 #[cycle(longest_part_longest_record_longest_tree)]
-fn longest_record(ty: &[u8], ends: &[usize], at: usize, level: usize, lefts: &Lefts) -> usize
-    requires stands { Stands level ty.now ends.now at }
-    requires small { Small (standing level ty.now at) }
-    requires lefts_value { lefts.now ≡ left_sizes }
-    ensures { result ≡ longest_shape (standing level ty.now at) }
+fn longest_record(table: &Table<'_>, at: usize, level: usize) -> usize
+    requires stands { Stands level table.now.ty.now (ends table.now.entries.now) at }
+    requires small { Small (standing level table.now.ty.now at) }
+    ensures { result ≡ longest_shape (standing level table.now.ty.now at) }
 {
-    match form_of(head_at(ty, at)) {
-        Form::Tree(parts, n) => longest_tree(ty, ends, at + 1, level - 1, n, parts, lefts).most,
+    match form_of(table.head(at)) {
+        Form::Tree(parts, n) => longest_tree(table, at + 1, level - 1, n, parts).most,
         Form::List(bound) => {
-            let most = longest_record(ty, ends, at + 1, level - 1, lefts);
+            let most = longest_record(table, at + 1, level - 1);
             longest_list(most, bound)
         }
     }
@@ -75,69 +74,52 @@ fn longest_record(ty: &[u8], ends: &[usize], at: usize, level: usize, lefts: &Le
 
 // Those of the part at record `at`, and the record of the part after it.
 #[cycle(longest_part_longest_record_longest_tree)]
-fn longest_part(
-    ty: &[u8],
-    ends: &[usize],
-    at: usize,
-    level: usize,
-    parts: Parts,
-    lefts: &Lefts,
-) -> Longest
-    requires given_part { GivenPart parts level ty.now ends.now at }
-    requires small { Small (part parts level ty.now at) }
-    requires lefts_value { lefts.now ≡ left_sizes }
-    ensures { Counted (part parts level ty.now at) (after parts level ty.now at) result }
+fn longest_part(table: &Table<'_>, at: usize, level: usize, parts: Parts) -> Longest
+    requires given_part { GivenPart parts level table.now.ty.now (ends table.now.entries.now) at }
+    requires small { Small (part parts level table.now.ty.now at) }
+    ensures { Counted (part parts level table.now.ty.now at) (after parts level table.now.ty.now at) result }
 {
     match parts {
         Parts::Bits => Longest { next: at, most: 2 },
         Parts::Copies => Longest {
             next: at,
-            most: longest_record(ty, ends, at, level, lefts),
+            most: longest_record(table, at, level),
         },
         Parts::Types => Longest {
-            next: ends[at],
-            most: longest_record(ty, ends, at, level, lefts),
+            next: table.end(at),
+            most: longest_record(table, at, level),
         },
         Parts::Choices => Longest {
-            next: ends[at],
-            most: longest_record(ty, ends, at, level, lefts),
+            next: table.end(at),
+            most: longest_record(table, at, level),
         },
     }
 }
 
 // Those of the balanced tree of the n parts from record `at` on, a unit for none, and the record after the parts.
 #[cycle(longest_part_longest_record_longest_tree)]
-fn longest_tree(
-    ty: &[u8],
-    ends: &[usize],
-    at: usize,
-    level: usize,
-    n: usize,
-    parts: Parts,
-    lefts: &Lefts,
-) -> Longest
+fn longest_tree(table: &Table<'_>, at: usize, level: usize, n: usize, parts: Parts) -> Longest
     requires n_le_most_parts { n ≤ most_parts }
-    requires given_parts { GivenParts parts level ty.now ends.now n at }
-    requires small { Small (balanced parts level ty.now n at) }
-    requires lefts_value { lefts.now ≡ left_sizes }
-    ensures { Counted (balanced parts level ty.now n at) (skip parts level ty.now n at) result }
+    requires given_parts { GivenParts parts level table.now.ty.now (ends table.now.entries.now) n at }
+    requires small { Small (balanced parts level table.now.ty.now n at) }
+    ensures { Counted (balanced parts level table.now.ty.now n at) (skip parts level table.now.ty.now n at) result }
 {
     if n == 0 {
         return Longest { next: at, most: 1 };
     }
     if n == 1 {
-        return longest_part(ty, ends, at, level, parts, lefts);
+        return longest_part(table, at, level, parts);
     }
     if are_same(parts) {
-        let one = longest_part(ty, ends, at, level, parts, lefts);
+        let one = longest_part(table, at, level, parts);
         return Longest {
             next: at,
             most: longest_same(one.most, n),
         };
     }
-    let few = btree_split_index(n, lefts);
-    let left = longest_tree(ty, ends, at, level, few, parts, lefts);
-    let right = longest_tree(ty, ends, left.next, level, n - few, parts, lefts);
+    let few = btree_split_index(n);
+    let left = longest_tree(table, at, level, few, parts);
+    let right = longest_tree(table, left.next, level, n - few, parts);
     Longest {
         next: right.next,
         most: longest_joint(parts, left.most, right.most),
@@ -145,11 +127,10 @@ fn longest_tree(
 }
 
 // The most records that a shape of the whole type has, which lowers to at most 65,536.
-pub fn longest_shape(ty: &[u8], ends: &[usize], lefts: &Lefts) -> usize
-    requires given { Given 32 false ty.now ends.now 0 }
-    requires small { Small (low 32 false ty.now 0) }
-    requires lefts_value { lefts.now ≡ left_sizes }
-    ensures { result ≡ longest_shape (low 32 false ty.now 0) }
+pub fn longest_shape(table: &Table<'_>) -> usize
+    requires given { Given 32 false table.now.ty.now (ends table.now.entries.now) 0 }
+    requires small { Small (low 32 false table.now.ty.now 0) }
+    ensures { result ≡ longest_shape (low 32 false table.now.ty.now 0) }
 {
-    longest_record(ty, ends, 0, 32, lefts)
+    longest_record(table, 0, 32)
 }

@@ -1,5 +1,7 @@
 -- What the search of a day file (02, R-4) knows on its way: the bits that are sought, whether a frame has them, and how a loop over the frames ended.
-use Rattle.std.specs.Prelude.{◌≡◌, Bool, true, false, List, ℕ, ◌<◌}
+use Rattle.std.specs.declared.ops.ControlFlow.{ControlFlow}
+use Rattle.std.specs.declared.ops.ControlFlow.TheVariants.{Break, Continue}
+use Rattle.std.specs.Prelude.{◌≡◌, Bool, true, false, List, ℕ, ◌<◌, Option, Some, None}
 use Rattle.model.specs.Outcome.{done}
 use Rattle.model.specs.Types.{Ty}
 use Rattle.model.specs.Lowering.{lower}
@@ -8,15 +10,10 @@ use Rattle.model.specs.ValueFiles.{value_of}
 use Rattle.model.specs.Frames.{after, width, frame}
 use Rattle.model.specs.DayFiles.{frame_at, Matches}
 use Rattle.day_files.specs.Laws.Days.{NoneBefore}
-use Rattle.reply.specs.declared.Found.{Found}
-use Rattle.reply.specs.declared.Found.TheVariants as found
 use Rattle.types.specs.Trees.{tree}
 use Rattle.bits.specs.Bits.{bits_at}
 use Rattle.edit.specs.Opened.{Opened}
 use Rattle.search.specs.declared.Sought.{Sought}
-use Rattle.search.specs.declared.Sought.TheVariants.{Unknown, Of}
-use Rattle.search.specs.declared.Look.{Look}
-use Rattle.search.specs.declared.Look.TheVariants.{Match, Not}
 
 -- the bytes of the longest frame
 abbrev pub longest : ℕ
@@ -30,16 +27,16 @@ pub record Says (t : Ty) (val bits : List ℕ) (is : Bool) : Type 0 where
   pub none_said : is ≡ false → (v : Value t) → value_of t val ≡ done v → ⊥
 
 -- of which type they are
-abbrev pub Kept : List ℕ → List ℕ → List ℕ → Sought → Type 0
-Kept s val bits Unknown = Unit
-Kept s val bits (Of p d is) = Says (tree d s p) val bits is
+abbrev pub Kept : List ℕ → List ℕ → List ℕ → Option Sought → Type 0
+Kept s val bits None = Unit
+Kept s val bits (Some x) = Says (tree x.level s x.at) val bits x.is_said
 
 -- A FRAME
 
 -- it matches, or it does not and the bits are of that type
-abbrev pub Looked : List ℕ → List ℕ → List ℕ → List ℕ → List ℕ → Look → Type 0
-Looked s fr path val bits Match = Matches after s fr path val
-Looked s fr path val bits (Not sought) = (Matches after s fr path val → ⊥) × Kept s val bits sought
+abbrev pub Looked : List ℕ → List ℕ → List ℕ → List ℕ → List ℕ → ControlFlow Unit (Option Sought) → Type 0
+Looked s fr path val bits (Break _) = Matches after s fr path val
+Looked s fr path val bits (Continue sought) = (Matches after s fr path val → ⊥) × Kept s val bits sought
 
 -- a frame is accepted, and its w bits from `bit` on are the sought ones
 pub record Standing (s E fr : List ℕ) (bit w : ℕ) (bits : List ℕ) : Type 0 where
@@ -53,7 +50,6 @@ Stood s E day size bit w bits i = Standing s E (frame_at size day i) bit w bits
 -- A DAY FILE
 
 -- a loop over n frames ended at one that is looked for, or there is none
-abbrev pub Ended : (ℕ → Type 0) → ℕ → Found → Type 0
-Ended P n (found.At i) = (i < n) × P i
-Ended P n found.Nowhere = NoneBefore P n
-Ended P n (found.Refused x) = ⊥
+abbrev pub Ended : (ℕ → Type 0) → ℕ → Option ℕ → Type 0
+Ended P n (Some i) = (i < n) × P i
+Ended P n None = NoneBefore P n

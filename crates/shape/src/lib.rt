@@ -5,7 +5,6 @@
 ghost use Rattle.std.specs.Prelude.{◌≡◌, false, ◌≤◌, ◌<◌};
 ghost use Rattle.model.specs.Structural.{unit, shape_records};
 ghost use Rattle.model.specs.Values.{bit};
-ghost use Rattle.array.specs.Lefts.{left_sizes};
 ghost use Rattle.types.specs.Heads.{FairBound};
 ghost use Rattle.types.specs.Steps.{Given};
 ghost use Rattle.structural.specs.Writing.{Wrote};
@@ -13,12 +12,13 @@ ghost use Rattle.structural.specs.Forms.{most_parts, Stands};
 ghost use Rattle.told.specs.Forms.{standing, skip, GivenParts, bits_told, balanced, chosen, listed};
 ghost use Rattle.told.specs.Laws.Lists.{record_bit, block_told};
 ghost use Rattle.shape.specs.Forms.{tag_of, Room, BitsThere, Ready, Placed, Shaped};
+ghost use Rattle.types.specs.Entries.{ends};
 
-use array::{Lefts, btree_split_index};
+use array::btree_split_index;
 use bits::get_bit;
-use num::{Bound, NonZeroPow2Usize};
+use num::NonZeroPow2Usize;
 use told::{Form, Parts, after_part, form_of, hop, share};
-use types::head_at;
+use types::Table;
 
 // The records of a shape.
 const UNIT: u8 = 0;
@@ -81,91 +81,54 @@ fn write_bit(val: &[u8], v: usize, j: usize, out: &mut [u8]) -> usize
 }
 
 // Writes the balanced product of the n bits from bit j of record v on, and answers its length.
-fn write_bits(val: &[u8], v: usize, j: usize, n: usize, out: &mut [u8], lefts: &Lefts) -> usize
+fn write_bits(val: &[u8], v: usize, j: usize, n: usize, out: &mut [u8]) -> usize
     requires bits_there { BitsThere val.now v j n }
     requires room { Room (bits_told val.now v j n) out.old }
-    requires lefts_value { lefts.now ≡ left_sizes }
     ensures { Wrote (shape_records (bits_told val.now v j n)) out.old out.new result }
 {
     if n == 1 {
         return write_bit(val, v, j, out);
     }
     out[0] = PAIR;
-    let few = btree_split_index(n, lefts);
+    let few = btree_split_index(n);
     let others = n - few;
-    let k = write_bits(val, v, j, few, &mut out[1..], lefts) + 1;
-    write_bits(val, v, j + few, others, &mut out[k..], lefts) + k
+    let k = write_bits(val, v, j, few, &mut out[1..]) + 1;
+    write_bits(val, v, j + few, others, &mut out[k..]) + k
 }
 
 // Writes the value at record v of what stands at record `at` of the type, with `level` levels from there on, and answers the record after the value and the length.
 #[cycle(write_block_write_list_write_record_write_sum_write_tree)]
 fn write_record(
-    ty: &[u8],
-    ends: &[usize],
+    table: &Table<'_>,
     at: usize,
     level: usize,
     val: &[u8],
     v: usize,
     out: &mut [u8],
-    lefts: &Lefts,
 ) -> Written
-    requires stands { Stands level ty.now ends.now at }
-    requires ready { Ready (standing level ty.now val.now at v) out.old }
-    requires lefts_value { lefts.now ≡ left_sizes }
-    ensures { Placed (standing level ty.now val.now at v) out.old out.new result.next result.len }
+    requires stands { Stands level table.now.ty.now (ends table.now.entries.now) at }
+    requires ready { Ready (standing level table.now.ty.now val.now at v) out.old }
+    ensures { Placed (standing level table.now.ty.now val.now at v) out.old out.new result.next result.len }
 {
-    match form_of(head_at(ty, at), val, v) {
+    match form_of(table.head(at), val, v) {
         Form::Bits(j, n) => Written {
             next: v + 1,
-            len: write_bits(val, v, j, n, out, lefts),
+            len: write_bits(val, v, j, n, out),
         },
         Form::Product(parts, n) => {
-            let row = write_tree(
-                ty,
-                ends,
-                at + 1,
-                level - 1,
-                n,
-                parts,
-                val,
-                v + 1,
-                out,
-                lefts,
-            );
+            let row = write_tree(table, at + 1, level - 1, n, parts, val, v + 1, out);
             Written {
                 next: row.next,
                 len: row.len,
             }
         }
         Form::Sum(n, i) => {
-            let place = hop(ends, at + 1, i);
-            write_sum(ty, ends, place, level - 1, n, i, val, v + 1, out, lefts)
+            let place = hop(table, at + 1, i);
+            write_sum(table, place, level - 1, n, i, val, v + 1, out)
         }
-        Form::List(bound, m) => write_list(
-            ty,
-            ends,
-            at + 1,
-            level - 1,
-            bound,
-            m,
-            val,
-            v + 1,
-            out,
-            lefts,
-        ),
+        Form::List(bound, m) => write_list(table, at + 1, level - 1, bound, m, val, v + 1, out),
         Form::Payload(n) => {
-            let row = write_tree(
-                ty,
-                ends,
-                at + 1,
-                level - 1,
-                n,
-                Parts::Types,
-                val,
-                v,
-                out,
-                lefts,
-            );
+            let row = write_tree(table, at + 1, level - 1, n, Parts::Types, val, v, out);
             Written {
                 next: row.next,
                 len: row.len,
@@ -177,8 +140,7 @@ fn write_record(
 // Writes the balanced product of the values from record v on, of the n parts from record `at` of the type on, a unit for none.
 #[cycle(write_block_write_list_write_record_write_sum_write_tree)]
 fn write_tree(
-    ty: &[u8],
-    ends: &[usize],
+    table: &Table<'_>,
     at: usize,
     level: usize,
     n: usize,
@@ -186,13 +148,11 @@ fn write_tree(
     val: &[u8],
     v: usize,
     out: &mut [u8],
-    lefts: &Lefts,
 ) -> Row
     requires n_le_most_parts { n ≤ most_parts }
-    requires given_parts { GivenParts parts level ty.now ends.now n at }
-    requires ready { Ready (balanced parts level ty.now val.now n at v) out.old }
-    requires lefts_value { lefts.now ≡ left_sizes }
-    ensures { Placed (balanced parts level ty.now val.now n at v) out.old out.new result.next result.len × (result.at ≡ skip parts level ty.now n at) }
+    requires given_parts { GivenParts parts level table.now.ty.now (ends table.now.entries.now) n at }
+    requires ready { Ready (balanced parts level table.now.ty.now val.now n at v) out.old }
+    ensures { Placed (balanced parts level table.now.ty.now val.now n at v) out.old out.new result.next result.len × (result.at ≡ skip parts level table.now.ty.now n at) }
 {
     if n == 0 {
         return Row {
@@ -202,32 +162,20 @@ fn write_tree(
         };
     }
     if n == 1 {
-        let one = write_record(ty, ends, at, level, val, v, out, lefts);
+        let one = write_record(table, at, level, val, v, out);
         return Row {
-            at: after_part(ends, at, parts),
+            at: after_part(table, at, parts),
             next: one.next,
             len: one.len,
         };
     }
     out[0] = PAIR;
-    let few = btree_split_index(n, lefts);
+    let few = btree_split_index(n);
     let others = n - few;
-    let left = write_tree(
-        ty,
-        ends,
-        at,
-        level,
-        few,
-        parts,
-        val,
-        v,
-        &mut out[1..],
-        lefts,
-    );
+    let left = write_tree(table, at, level, few, parts, val, v, &mut out[1..]);
     let k = left.len + 1;
     let right = write_tree(
-        ty,
-        ends,
+        table,
         left.at,
         level,
         others,
@@ -235,7 +183,6 @@ fn write_tree(
         val,
         left.next,
         &mut out[k..],
-        lefts,
     );
     Row {
         at: right.at,
@@ -247,8 +194,7 @@ fn write_tree(
 // Writes choice i of n, the tags that lead to it and the value at record v of what stands at record `at` of the type.
 #[cycle(write_block_write_list_write_record_write_sum_write_tree)]
 fn write_sum(
-    ty: &[u8],
-    ends: &[usize],
+    table: &Table<'_>,
     at: usize,
     level: usize,
     n: usize,
@@ -256,21 +202,19 @@ fn write_sum(
     val: &[u8],
     v: usize,
     out: &mut [u8],
-    lefts: &Lefts,
 ) -> Written
     requires i_lt_n { (i < n) × (n ≤ most_parts) }
-    requires stands { Stands level ty.now ends.now at }
-    requires ready { Ready (chosen level ty.now val.now n i at v) out.old }
-    requires lefts_value { lefts.now ≡ left_sizes }
-    ensures { Placed (chosen level ty.now val.now n i at v) out.old out.new result.next result.len }
+    requires stands { Stands level table.now.ty.now (ends table.now.entries.now) at }
+    requires ready { Ready (chosen level table.now.ty.now val.now n i at v) out.old }
+    ensures { Placed (chosen level table.now.ty.now val.now n i at v) out.old out.new result.next result.len }
 {
     if n == 1 {
-        return write_record(ty, ends, at, level, val, v, out, lefts);
+        return write_record(table, at, level, val, v, out);
     }
-    let few = btree_split_index(n, lefts);
+    let few = btree_split_index(n);
     if i < few {
         out[0] = LEFT;
-        let left = write_sum(ty, ends, at, level, few, i, val, v, &mut out[1..], lefts);
+        let left = write_sum(table, at, level, few, i, val, v, &mut out[1..]);
         return Written {
             next: left.next,
             len: left.len + 1,
@@ -278,18 +222,7 @@ fn write_sum(
     }
     out[0] = RIGHT;
     let others = n - few;
-    let right = write_sum(
-        ty,
-        ends,
-        at,
-        level,
-        others,
-        i - few,
-        val,
-        v,
-        &mut out[1..],
-        lefts,
-    );
+    let right = write_sum(table, at, level, others, i - few, val, v, &mut out[1..]);
     Written {
         next: right.next,
         len: right.len + 1,
@@ -299,21 +232,18 @@ fn write_sum(
 // Writes a block of n elements, the values from record v on of what stands at record `at` of the type: LEFT and a unit for none, else RIGHT and their tree.
 #[cycle(write_block_write_list_write_record_write_sum_write_tree)]
 fn write_block(
-    ty: &[u8],
-    ends: &[usize],
+    table: &Table<'_>,
     at: usize,
     level: usize,
     n: usize,
     val: &[u8],
     v: usize,
     out: &mut [u8],
-    lefts: &Lefts,
 ) -> Written
     requires n_le_most_parts { n ≤ most_parts }
-    requires stands { Stands level ty.now ends.now at }
-    requires ready { Ready (block_told level ty.now val.now n at v) out.old }
-    requires lefts_value { lefts.now ≡ left_sizes }
-    ensures { Placed (block_told level ty.now val.now n at v) out.old out.new result.next result.len }
+    requires stands { Stands level table.now.ty.now (ends table.now.entries.now) at }
+    requires ready { Ready (block_told level table.now.ty.now val.now n at v) out.old }
+    ensures { Placed (block_told level table.now.ty.now val.now n at v) out.old out.new result.next result.len }
 {
     if n == 0 {
         out[0] = LEFT;
@@ -321,18 +251,7 @@ fn write_block(
         return Written { next: v, len: 2 };
     }
     out[0] = RIGHT;
-    let row = write_tree(
-        ty,
-        ends,
-        at,
-        level,
-        n,
-        Parts::Copies,
-        val,
-        v,
-        &mut out[1..],
-        lefts,
-    );
+    let row = write_tree(table, at, level, n, Parts::Copies, val, v, &mut out[1..]);
     Written {
         next: row.next,
         len: row.len + 1,
@@ -342,8 +261,7 @@ fn write_block(
 // Writes the list with the bound and m elements, the values from record v on of what stands at record `at` of the type: with the bound 2 a block of all, else the block of half the bound and the list of the rest with that bound.
 #[cycle(write_block_write_list_write_record_write_sum_write_tree)]
 fn write_list(
-    ty: &[u8],
-    ends: &[usize],
+    table: &Table<'_>,
     at: usize,
     level: usize,
     bound: NonZeroPow2Usize,
@@ -351,25 +269,22 @@ fn write_list(
     val: &[u8],
     v: usize,
     out: &mut [u8],
-    lefts: &Lefts,
 ) -> Written
     requires fair_bound { FairBound bound × (m < bound.0) }
-    requires stands { Stands level ty.now ends.now at }
-    requires ready { Ready (listed level ty.now val.now bound m at v) out.old }
-    requires lefts_value { lefts.now ≡ left_sizes }
-    ensures { Placed (listed level ty.now val.now bound m at v) out.old out.new result.next result.len }
+    requires stands { Stands level table.now.ty.now (ends table.now.entries.now) at }
+    requires ready { Ready (listed level table.now.ty.now val.now bound m at v) out.old }
+    ensures { Placed (listed level table.now.ty.now val.now bound m at v) out.old out.new result.next result.len }
 {
     match bound.checked_div2() {
-        Bound::Not => write_block(ty, ends, at, level, m, val, v, out, lefts),
-        Bound::Of(half) => {
+        None => write_block(table, at, level, m, val, v, out),
+        Some(half) => {
             out[0] = PAIR;
             let n = share(m, half.get());
-            let left = write_block(ty, ends, at, level, n, val, v, &mut out[1..], lefts);
+            let left = write_block(table, at, level, n, val, v, &mut out[1..]);
             let k = left.len + 1;
             let others = m - n;
             let right = write_list(
-                ty,
-                ends,
+                table,
                 at,
                 level,
                 half,
@@ -377,7 +292,6 @@ fn write_list(
                 val,
                 left.next,
                 &mut out[k..],
-                lefts,
             );
             Written {
                 next: right.next,
@@ -388,11 +302,10 @@ fn write_list(
 }
 
 // Writes the shape of the value file, one of the type file, and answers its length; the bytes behind it stay.
-pub fn write_shape(ty: &[u8], ends: &[usize], val: &[u8], out: &mut [u8], lefts: &Lefts) -> usize
-    requires given { Given 32 false ty.now ends.now 0 }
-    requires ready { Ready (standing 32 ty.now val.now 0 0) out.old }
-    requires lefts_value { lefts.now ≡ left_sizes }
-    ensures { Shaped (standing 32 ty.now val.now 0 0) out.old out.new result }
+pub fn write_shape(table: &Table<'_>, val: &[u8], out: &mut [u8]) -> usize
+    requires given { Given 32 false table.now.ty.now (ends table.now.entries.now) 0 }
+    requires ready { Ready (standing 32 table.now.ty.now val.now 0 0) out.old }
+    ensures { Shaped (standing 32 table.now.ty.now val.now 0 0) out.old out.new result }
 {
-    write_record(ty, ends, 0, 32, val, 0, out, lefts).len
+    write_record(table, 0, 32, val, 0, out).len
 }

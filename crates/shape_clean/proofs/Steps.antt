@@ -1,4 +1,5 @@
 -- The steps of the copiers, each in the form in which a need of the code asks it, so that a search finds it.
+use Rattle.std.specs.Prelude.{Option, Some, None, unwrap_or}
 use mathlib.Core.Path.{◌≡◌, refl, sym, ap, ◌∙◌}
 use mathlib.Core.List.{List, [], ◌∷◌}
 use mathlib.Core.Option.{some, none-ne-some}
@@ -7,12 +8,8 @@ use native.Mathlib.Omega.{arith}
 use mir.Syntax.{w64}
 use mir.Val.{Fits}
 use lib.ListN.{length, get_or, set, length-set}
-use Rattle.array.specs.declared.TreeEnd.{TreeEnd}
-use Rattle.array.specs.declared.TreeEnd.TheVariants.{At, Nothing}
 use Rattle.array.specs.Ends.{tree_end_of}
 use Rattle.num.specs.declared.NonZeroPow2Usize.{NonZeroPow2Usize}
-use Rattle.num.specs.declared.Bound.{Bound}
-use Rattle.num.specs.declared.Bound.TheVariants as bounds
 use Rattle.num.specs.Powers.{half_bound}
 use Rattle.model.specs.Balanced.{btree_split_index}
 use Rattle.model.specs.Structural.{unit, shape_records}
@@ -52,14 +49,11 @@ same_count w r = placed_length r w
 
 -- SPOTS AND BITS
 
-module _ (sh : List ℕ) (p : ℕ) (out : List ℕ) (r : Ready (passes copied sh p) out) (o : TreeEnd) (h : o ≡ tree_end_of sh p) where
-  pub spot_at : (e : ℕ) → o ≡ At e → Placed (passes copied sh p) out (set out 0 0) e 1
-  unfolding passes copied shape_records
-  spot_at e k = record { shape = unit; told = ap (passed copied p) (sym h ∙ k); wrote = wrote_set (wrote_none out) 0 (ready_some r) }
-
-  pub spot_nowhere : o ≡ Nothing → ⊥
-  unfolding passes copied
-  spot_nowhere k = none-ne-some _ (sym (ap (passed copied p) (sym h ∙ k)) ∙ r.told)
+-- a unit is put, and the place after is the end of the tree, which stands there
+pub spot_placed : (sh : List ℕ) (p : ℕ) (out : List ℕ) → Ready (passes copied sh p) out → (o : Option ℕ) → o ≡ tree_end_of sh p → (e : ℕ) → e ≡ unwrap_or o p → Placed (passes copied sh p) out (set out 0 0) e 1
+unfolding passes copied shape_records
+spot_placed sh p out r (Some n) h e k = record { shape = unit; told = ap (passed copied p) (sym h) ∙ ap (λ i. some (unit, i)) (sym k); wrote = wrote_set (wrote_none out) 0 (ready_some r) }
+spot_placed sh p out r None h e k = absurd (none-ne-some _ (ap (passed copied p) h ∙ r.told))
 
 module _ (sh : List ℕ) (p : ℕ) (out : List ℕ) (r : Ready (bit copied sh p) out) where
   there : BitThere sh p (r.shape, r.end)
@@ -370,14 +364,14 @@ module _ (sh : List ℕ) (d : ℕ) (s : List ℕ) (n q p : ℕ) (out : List ℕ)
 pub one_few : 1 ≤ most_parts
 one_few = omega arith
 
-module _ (b : NonZeroPow2Usize) (g : FairBound b) (o : Bound) (u : o ≡ half_bound b.0) where
-  pub two_is : (sh : List ℕ) (d : ℕ) (s : List ℕ) (q p : ℕ) → o ≡ bounds.Not → listed (copier sh) d s b q p ≡ block_of (copier sh) d s 1 q p
+module _ (b : NonZeroPow2Usize) (g : FairBound b) (o : Option NonZeroPow2Usize) (u : o ≡ half_bound b.0) where
+  pub two_is : (sh : List ℕ) (d : ℕ) (s : List ℕ) (q p : ℕ) → o ≡ None → listed (copier sh) d s b q p ≡ block_of (copier sh) d s 1 q p
   two_is sh d s q p v = here p (list_two (copier sh) d s q g (sym v ∙ u))
 
   pub falls_to_two : (d t : ℕ) → d * 2 ^ 17 + b.0 + 4 ≡ t → d * 2 ^ 17 + 1 + 2 < t
   falls_to_two d t m = omega arith
 
-  module _ (a : NonZeroPow2Usize) (v : o ≡ bounds.Of a) where
+  module _ (a : NonZeroPow2Usize) (v : o ≡ Some a) where
     halved : (sh : List ℕ) (d : ℕ) (s : List ℕ) (q : ℕ) → Halved (copier sh) b a d s q
     halved sh d s q = list_more (copier sh) d s q g (sym v ∙ u)
 

@@ -44,168 +44,56 @@ fn show(
     Ok(())
 }
 
+// What `show` does of the folder of that name.
+macro_rules! folder {
+    ($rt:expr, $name:literal) => {
+        show(
+            $rt,
+            $name,
+            concat!($name, "/old.typ"),
+            concat!($name, "/old.shape"),
+            concat!($name, "/new.shape"),
+            concat!($name, "/new.shape.part"),
+        )
+    };
+}
+
 // Spots of every kind, and a shape that passes.
 fn spots(rt: &(impl Files + Print + Eprint)) -> io::Result<()> {
-    show(
-        rt,
-        "stored",
-        "stored/old.typ",
-        "stored/old.shape",
-        "stored/new.shape",
-        "stored/new.shape.part",
-    )?;
-    show(
-        rt,
-        "passes",
-        "passes/old.typ",
-        "passes/old.shape",
-        "passes/new.shape",
-        "passes/new.shape.part",
-    )?;
-    show(
-        rt,
-        "unit",
-        "unit/old.typ",
-        "unit/old.shape",
-        "unit/new.shape",
-        "unit/new.shape.part",
-    )?;
-    show(
-        rt,
-        "array-of-0",
-        "array-of-0/old.typ",
-        "array-of-0/old.shape",
-        "array-of-0/new.shape",
-        "array-of-0/new.shape.part",
-    )
+    folder!(rt, "stored")?;
+    folder!(rt, "passes")?;
+    folder!(rt, "unit")?;
+    folder!(rt, "array-of-0")
 }
 
 // An older new.shape, a type that does not lower, and the largest shape.
 fn more_spots(rt: &(impl Files + Print + Eprint)) -> io::Result<()> {
-    show(
-        rt,
-        "again",
-        "again/old.typ",
-        "again/old.shape",
-        "again/new.shape",
-        "again/new.shape.part",
-    )?;
-    show(
-        rt,
-        "never",
-        "never/old.typ",
-        "never/old.shape",
-        "never/new.shape",
-        "never/new.shape.part",
-    )?;
-    show(
-        rt,
-        "largest",
-        "largest/old.typ",
-        "largest/old.shape",
-        "largest/new.shape",
-        "largest/new.shape.part",
-    )
+    folder!(rt, "again")?;
+    folder!(rt, "never")?;
+    folder!(rt, "largest")
 }
 
 // Shapes that are refused.
 fn no_values(rt: &(impl Files + Print + Eprint)) -> io::Result<()> {
-    show(
-        rt,
-        "bit",
-        "bit/old.typ",
-        "bit/old.shape",
-        "bit/new.shape",
-        "bit/new.shape.part",
-    )?;
-    show(
-        rt,
-        "none",
-        "none/old.typ",
-        "none/old.shape",
-        "none/new.shape",
-        "none/new.shape.part",
-    )?;
-    show(
-        rt,
-        "cut",
-        "cut/old.typ",
-        "cut/old.shape",
-        "cut/new.shape",
-        "cut/new.shape.part",
-    )?;
-    show(
-        rt,
-        "long",
-        "long/old.typ",
-        "long/old.shape",
-        "long/new.shape",
-        "long/new.shape.part",
-    )
+    folder!(rt, "bit")?;
+    folder!(rt, "none")?;
+    folder!(rt, "cut")?;
+    folder!(rt, "long")
 }
 
 // Types that are refused.
 fn no_types(rt: &(impl Files + Print + Eprint)) -> io::Result<()> {
-    show(
-        rt,
-        "bad-type",
-        "bad-type/old.typ",
-        "bad-type/old.shape",
-        "bad-type/new.shape",
-        "bad-type/new.shape.part",
-    )?;
-    show(
-        rt,
-        "odd-type",
-        "odd-type/old.typ",
-        "odd-type/old.shape",
-        "odd-type/new.shape",
-        "odd-type/new.shape.part",
-    )?;
-    show(
-        rt,
-        "long-type",
-        "long-type/old.typ",
-        "long-type/old.shape",
-        "long-type/new.shape",
-        "long-type/new.shape.part",
-    )?;
-    show(
-        rt,
-        "longer-type",
-        "longer-type/old.typ",
-        "longer-type/old.shape",
-        "longer-type/new.shape",
-        "longer-type/new.shape.part",
-    )
+    folder!(rt, "bad-type")?;
+    folder!(rt, "odd-type")?;
+    folder!(rt, "long-type")?;
+    folder!(rt, "longer-type")
 }
 
 // Files that are missing, and an older new.shape that stays.
 fn no_files(rt: &(impl Files + Print + Eprint)) -> io::Result<()> {
-    show(
-        rt,
-        "missing",
-        "missing/old.typ",
-        "missing/old.shape",
-        "missing/new.shape",
-        "missing/new.shape.part",
-    )?;
-    show(
-        rt,
-        "nothing",
-        "nothing/old.typ",
-        "nothing/old.shape",
-        "nothing/new.shape",
-        "nothing/new.shape.part",
-    )?;
-    show(
-        rt,
-        "stale",
-        "stale/old.typ",
-        "stale/old.shape",
-        "stale/new.shape",
-        "stale/new.shape.part",
-    )
+    folder!(rt, "missing")?;
+    folder!(rt, "nothing")?;
+    folder!(rt, "stale")
 }
 
 fn main(rt: HostRuntime) -> io::Result<()> {

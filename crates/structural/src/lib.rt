@@ -4,16 +4,16 @@
 
 ghost use Rattle.std.specs.Prelude.{◌≡◌, false, ◌++◌, ◌+◌, ◌≤◌, length, take};
 ghost use Rattle.model.specs.Structural.{𝟙, ◌⊕◌, type_records};
-ghost use Rattle.array.specs.Lefts.{left_sizes};
 ghost use Rattle.types.specs.Heads.{FairBound};
 ghost use Rattle.types.specs.Steps.{Given};
 ghost use Rattle.types.specs.Lows.{low};
 ghost use Rattle.structural.specs.Writing.{Wrote};
 ghost use Rattle.structural.specs.Forms.{most_parts, Room, form_of, joint_of, all_same, standing, Stands, part, after, skip, balanced, GivenPart, GivenParts, Placed, block_of, listed};
+ghost use Rattle.types.specs.Entries.{ends};
 
-use array::{Lefts, btree_split_index};
-use num::{Bound, NonZeroPow2Usize};
-use types::{Head, head_at};
+use array::btree_split_index;
+use num::NonZeroPow2Usize;
+use types::{Head, Table};
 
 // The records of a lowered type.
 const UNIT: u8 = 0;
@@ -98,10 +98,8 @@ fn repeat(out: &mut [u8], len: usize) -> usize
     requires { len + len ≤ length out.old }
     ensures { Wrote (take len out.old ++ take len out.old) out.old out.new result }
 {
-    let mut i = 0;
-    while i < len {
+    for i in 0..len {
         out[len + i] = out[i];
-        i += 1;
     }
     len + len
 }
@@ -128,40 +126,23 @@ fn write_bit(out: &mut [u8]) -> usize
 
 // Writes what stands at record `at`, a type or a Variant's payload, with `level` levels from there on, and answers the length.
 #[cycle(write_block_write_list_write_part_write_record_write_tree)]
-fn write_record(
-    ty: &[u8],
-    ends: &[usize],
-    at: usize,
-    level: usize,
-    out: &mut [u8],
-    lefts: &Lefts,
-) -> usize
-    requires stands { Stands level ty.now ends.now at }
-    requires room { Room (standing level ty.now at) out.old }
-    requires lefts_value { lefts.now ≡ left_sizes }
-    ensures { Wrote (type_records (standing level ty.now at)) out.old out.new result }
+fn write_record(table: &Table<'_>, at: usize, level: usize, out: &mut [u8]) -> usize
+    requires stands { Stands level table.now.ty.now (ends table.now.entries.now) at }
+    requires room { Room (standing level table.now.ty.now at) out.old }
+    ensures { Wrote (type_records (standing level table.now.ty.now at)) out.old out.new result }
 {
-    match form_of(head_at(ty, at)) {
-        Form::Tree(parts, n) => write_tree(ty, ends, at + 1, level - 1, n, parts, out, lefts).len,
-        Form::List(bound) => write_list(ty, ends, at + 1, level - 1, bound, out, lefts),
+    match form_of(table.head(at)) {
+        Form::Tree(parts, n) => write_tree(table, at + 1, level - 1, n, parts, out).len,
+        Form::List(bound) => write_list(table, at + 1, level - 1, bound, out),
     }
 }
 
 // Writes the part at record `at`, and answers its length and the record of the part after it.
 #[cycle(write_block_write_list_write_part_write_record_write_tree)]
-fn write_part(
-    ty: &[u8],
-    ends: &[usize],
-    at: usize,
-    level: usize,
-    parts: Parts,
-    out: &mut [u8],
-    lefts: &Lefts,
-) -> Written
-    requires given_part { GivenPart parts level ty.now ends.now at }
-    requires room { Room (part parts level ty.now at) out.old }
-    requires lefts_value { lefts.now ≡ left_sizes }
-    ensures { Placed (part parts level ty.now at) (after parts level ty.now at) out.old out.new result }
+fn write_part(table: &Table<'_>, at: usize, level: usize, parts: Parts, out: &mut [u8]) -> Written
+    requires given_part { GivenPart parts level table.now.ty.now (ends table.now.entries.now) at }
+    requires room { Room (part parts level table.now.ty.now at) out.old }
+    ensures { Placed (part parts level table.now.ty.now at) (after parts level table.now.ty.now at) out.old out.new result }
 {
     match parts {
         Parts::Bits => Written {
@@ -170,15 +151,15 @@ fn write_part(
         },
         Parts::Copies => Written {
             next: at,
-            len: write_record(ty, ends, at, level, out, lefts),
+            len: write_record(table, at, level, out),
         },
         Parts::Types => Written {
-            next: ends[at],
-            len: write_record(ty, ends, at, level, out, lefts),
+            next: table.end(at),
+            len: write_record(table, at, level, out),
         },
         Parts::Choices => Written {
-            next: ends[at],
-            len: write_record(ty, ends, at, level, out, lefts),
+            next: table.end(at),
+            len: write_record(table, at, level, out),
         },
     }
 }
@@ -186,20 +167,17 @@ fn write_part(
 // Writes the balanced tree of the n parts from record `at` on, a unit for none, and answers its length and the record after the parts.
 #[cycle(write_block_write_list_write_part_write_record_write_tree)]
 fn write_tree(
-    ty: &[u8],
-    ends: &[usize],
+    table: &Table<'_>,
     at: usize,
     level: usize,
     n: usize,
     parts: Parts,
     out: &mut [u8],
-    lefts: &Lefts,
 ) -> Written
     requires n_le_most_parts { n ≤ most_parts }
-    requires given_parts { GivenParts parts level ty.now ends.now n at }
-    requires room { Room (balanced parts level ty.now n at) out.old }
-    requires lefts_value { lefts.now ≡ left_sizes }
-    ensures { Placed (balanced parts level ty.now n at) (skip parts level ty.now n at) out.old out.new result }
+    requires given_parts { GivenParts parts level table.now.ty.now (ends table.now.entries.now) n at }
+    requires room { Room (balanced parts level table.now.ty.now n at) out.old }
+    ensures { Placed (balanced parts level table.now.ty.now n at) (skip parts level table.now.ty.now n at) out.old out.new result }
 {
     if n == 0 {
         return Written {
@@ -208,12 +186,12 @@ fn write_tree(
         };
     }
     if n == 1 {
-        return write_part(ty, ends, at, level, parts, out, lefts);
+        return write_part(table, at, level, parts, out);
     }
     out[0] = joint(parts);
-    let few = btree_split_index(n, lefts);
+    let few = btree_split_index(n);
     let others = n - few;
-    let left = write_tree(ty, ends, at, level, few, parts, &mut out[1..], lefts);
+    let left = write_tree(table, at, level, few, parts, &mut out[1..]);
     if few == others && are_same(parts) {
         return Written {
             next: at,
@@ -221,16 +199,7 @@ fn write_tree(
         };
     }
     let k = left.len + 1;
-    let right = write_tree(
-        ty,
-        ends,
-        left.next,
-        level,
-        others,
-        parts,
-        &mut out[k..],
-        lefts,
-    );
+    let right = write_tree(table, left.next, level, others, parts, &mut out[k..]);
     Written {
         next: right.next,
         len: right.len + k,
@@ -239,67 +208,47 @@ fn write_tree(
 
 // Writes a block of n parts of the type at record `at`, a unit or all of them, and answers its length.
 #[cycle(write_block_write_list_write_part_write_record_write_tree)]
-fn write_block(
-    ty: &[u8],
-    ends: &[usize],
-    at: usize,
-    level: usize,
-    n: usize,
-    out: &mut [u8],
-    lefts: &Lefts,
-) -> usize
+fn write_block(table: &Table<'_>, at: usize, level: usize, n: usize, out: &mut [u8]) -> usize
     requires n_le_most_parts { n ≤ most_parts }
-    requires stands { Stands level ty.now ends.now at }
-    requires room { Room (block_of level ty.now n at) out.old }
-    requires lefts_value { lefts.now ≡ left_sizes }
-    ensures { Wrote (type_records (block_of level ty.now n at)) out.old out.new result }
+    requires stands { Stands level table.now.ty.now (ends table.now.entries.now) at }
+    requires room { Room (block_of level table.now.ty.now n at) out.old }
+    ensures { Wrote (type_records (block_of level table.now.ty.now n at)) out.old out.new result }
 {
     out[0] = SUM;
     out[1] = UNIT;
-    write_tree(ty, ends, at, level, n, Parts::Copies, &mut out[2..], lefts).len + 2
+    write_tree(table, at, level, n, Parts::Copies, &mut out[2..]).len + 2
 }
 
 // Writes the list with the bound of the type at record `at`, and answers its length: with the bound 2 a block of 1, else a block of half the bound and the list with that bound.
 #[cycle(write_block_write_list_write_part_write_record_write_tree)]
 fn write_list(
-    ty: &[u8],
-    ends: &[usize],
+    table: &Table<'_>,
     at: usize,
     level: usize,
     bound: NonZeroPow2Usize,
     out: &mut [u8],
-    lefts: &Lefts,
 ) -> usize
     requires fair_bound { FairBound bound }
-    requires stands { Stands level ty.now ends.now at }
-    requires room { Room (listed level ty.now bound at) out.old }
-    requires lefts_value { lefts.now ≡ left_sizes }
-    ensures { Wrote (type_records (listed level ty.now bound at)) out.old out.new result }
+    requires stands { Stands level table.now.ty.now (ends table.now.entries.now) at }
+    requires room { Room (listed level table.now.ty.now bound at) out.old }
+    ensures { Wrote (type_records (listed level table.now.ty.now bound at)) out.old out.new result }
 {
     match bound.checked_div2() {
-        Bound::Not => write_block(ty, ends, at, level, 1, out, lefts),
-        Bound::Of(half) => {
+        None => write_block(table, at, level, 1, out),
+        Some(half) => {
             out[0] = PRODUCT;
-            let k = write_block(ty, ends, at, level, half.get(), &mut out[1..], lefts) + 1;
-            write_list(ty, ends, at, level, half, &mut out[k..], lefts) + k
+            let k = write_block(table, at, level, half.get(), &mut out[1..]) + 1;
+            write_list(table, at, level, half, &mut out[k..]) + k
         }
     }
 }
 
 // Writes the lowered type of the type at record `at`, with `level` levels from there on, and answers its length; the bytes behind it stay.
 // A Never, which has no lowered type, is written as a unit.
-pub fn write_lowered(
-    ty: &[u8],
-    ends: &[usize],
-    at: usize,
-    level: usize,
-    out: &mut [u8],
-    lefts: &Lefts,
-) -> usize
-    requires given { Given level false ty.now ends.now at }
-    requires room { Room (low level false ty.now at) out.old }
-    requires lefts_value { lefts.now ≡ left_sizes }
-    ensures { Wrote (type_records (low level false ty.now at)) out.old out.new result }
+pub fn write_lowered(table: &Table<'_>, at: usize, level: usize, out: &mut [u8]) -> usize
+    requires given { Given level false table.now.ty.now (ends table.now.entries.now) at }
+    requires room { Room (low level false table.now.ty.now at) out.old }
+    ensures { Wrote (type_records (low level false table.now.ty.now at)) out.old out.new result }
 {
-    write_record(ty, ends, at, level, out, lefts)
+    write_record(table, at, level, out)
 }

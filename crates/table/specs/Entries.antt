@@ -1,5 +1,5 @@
 -- A record's entry, computed from its children's, is true of what stands at the record: by what the record says.
-use Rattle.std.specs.Prelude.{◌≡◌, List, [], ◌∷◌, Bool, length, replicate}
+use Rattle.std.specs.Prelude.{◌≡◌, List, [], ◌∷◌, Bool, length, replicate, Ok}
 use Rattle.std.proofs.Math.Path.{refl, sym, ap, ap₂}
 use Rattle.std.proofs.Common.{◌∙◌, ne_eqb}
 use Rattle.std.proofs.Math.Bool.{true, false}
@@ -15,7 +15,6 @@ use Rattle.num.specs.Powers.{bound_log2}
 use Rattle.num.specs.Laws.{bounded}
 use Rattle.types.specs.declared.Head.{Head}
 use Rattle.types.specs.declared.Head.TheVariants.{Missing, Faulty, Never, Boolean, UInt, Either, Opt, Tuple, Array, Listed, Variants, Payload}
-use Rattle.types.specs.declared.Walk.TheVariants.{End}
 use Rattle.types.specs.Record.{head_at, calls_for, rec_at}
 use Rattle.types.specs.Heads.{Fair, width_range}
 use Rattle.types.specs.Walks.{opens, many, walk}
@@ -66,7 +65,7 @@ module _ (d : ℕ) (s E S W : List ℕ) (g : Ends s E) (p : ℕ) (m : Measured s
   uint_facts : (n : ℕ) → 1 ≤ n → n ≤ 256 → ◌≡◌ {A = facts.Facts} (record { size = 4 * n - 1; width = n }) (facts_true (product_of (replicate n (𝟙 ⊕ 𝟙))))
   uint_facts n h k = let a = nodes_array n (𝟙 ⊕ 𝟙) h in let b = width_array n (𝟙 ⊕ 𝟙) in same_facts (omega arith) (omega arith)
 
-  either_facts : (e : ℕ) → many (walk d false s) 2 p ≡ End e → facts_of Either E S W p ≡ facts_true (low d false s p ⊕ low d false s (end_of (walk d false s p)))
+  either_facts : (e : ℕ) → many (walk d false s) 2 p ≡ Ok e → facts_of Either E S W p ≡ facts_true (low d false s p ⊕ low d false s (end_of (walk d false s p)))
   unfolding facts_of
   either_facts e h =
       let f = first_of d false s 1 p e h in
@@ -79,15 +78,15 @@ module _ (d : ℕ) (s E S W : List ℕ) (g : Ends s E) (p : ℕ) (m : Measured s
       let b2 = ap (entry W) n ∙ entry_width d false s E S W g p m (end_of (walk d false s p)) f2.end l f2.walks in
       same_facts (ap₂ (λ x y. cut (x + y + 1)) a a2 ∙ omega arith) (ap₂ (λ x y. cut (max x y + 1)) b b2 ∙ cut_max _ _)
 
-  one_child : (e : ℕ) → many (walk d false s) 1 p ≡ End e → (entry S p ≡ cut (nodes (low d false s p))) × (entry W p ≡ cut (width (low d false s p)))
+  one_child : (e : ℕ) → many (walk d false s) 1 p ≡ Ok e → (entry S p ≡ cut (nodes (low d false s p))) × (entry W p ≡ cut (width (low d false s p)))
   one_child e h =
       let f = first_of d false s 0 p e h in
       (entry_size d false s E S W g p m p f.end (omega arith) f.walks, entry_width d false s E S W g p m p f.end (omega arith) f.walks)
 
-  row_facts : (n e : ℕ) → many (walk d false s) n p ≡ End e → product (sums E S W n p 0 0) n ≡ facts_true (product_of (lows d false s n p))
+  row_facts : (n e : ℕ) → many (walk d false s) n p ≡ Ok e → product (sums E S W n p 0 0) n ≡ facts_true (product_of (lows d false s n p))
   row_facts n e h = ap (λ f. product f n) (sums_right d false s E S W g p m n p e 0 0 (omega arith) h) ∙ product_counted (lows d false s n p) n (length_lows d false s n p)
 
-  sum_facts : (n e : ℕ) → 1 ≤ n → many (walk d true s) n p ≡ End e → ◌≡◌ {A = facts.Facts} (record { size = cut ((sums E S W n p 0 0).size + (n - 1)); width = (sum_width (btree n) E W p).width }) (facts_true (balanced_sum (btree n) (lows d true s n p)))
+  sum_facts : (n e : ℕ) → 1 ≤ n → many (walk d true s) n p ≡ Ok e → ◌≡◌ {A = facts.Facts} (record { size = cut ((sums E S W n p 0 0).size + (n - 1)); width = (sum_width (btree n) E W p).width }) (facts_true (balanced_sum (btree n) (lows d true s n p)))
   sum_facts n e o h =
       let a = sums_right d true s E S W g p m n p e 0 0 (omega arith) h in
       let lv : leaves (btree n) ≡ n = btree_leaves n o in
@@ -95,7 +94,7 @@ module _ (d : ℕ) (s E S W : List ℕ) (g : Ends s E) (p : ℕ) (m : Measured s
       let b = nodes_balanced_sum n (lows d true s n p) (length_lows d true s n p) o in
       same_facts (ap (λ (f : facts.Facts). cut (f.size + (n - 1))) a ∙ omega arith) (ap (λ (f : sum.Sum). f.width) r.0 ∙ ap (λ k. cut (width (balanced_sum (btree n) (lows d true s k p)))) lv)
 
-  list_facts : (b k e : ℕ) → b ≡ Prim.Native.Nat.◌^◌ 2 (suc k) → bound_log2 b ≡ suc k → many (walk d false s) 1 p ≡ End e
+  list_facts : (b k e : ℕ) → b ≡ Prim.Native.Nat.◌^◌ 2 (suc k) → bound_log2 b ≡ suc k → many (walk d false s) 1 p ≡ Ok e
       → ◌≡◌ {A = facts.Facts} (record { size = cut (cut ((b - 1) * entry S p) + ((b - 1) + 2 * bound_log2 b - 1)); width = cut (cut ((b - 1) * entry W p) + bound_log2 b) }) (facts_true (partition_type (bound_log2 b - 1) (low d false s p)))
   list_facts b k e q l h =
       let (a, c) = one_child e h in
@@ -105,7 +104,7 @@ module _ (d : ℕ) (s E S W : List ℕ) (g : Ends s E) (p : ℕ) (m : Measured s
       (ap (λ n. cut (cut ((b - 1) * n) + ((b - 1) + 2 * suc k - 1))) a ∙ cut_plus ((b - 1) * cut (nodes t)) ((b - 1) * nodes t) ((b - 1) + 2 * suc k - 1) (cut_mul (b - 1) (nodes t)) ∙ ap cut (sym (list_size k b t q)))
       (ap (λ n. cut (cut ((b - 1) * n) + suc k)) c ∙ cut_plus ((b - 1) * cut (width t)) ((b - 1) * width t) (suc k) (cut_mul (b - 1) (width t)) ∙ ap cut (sym (list_bits k b t q))))
 
-  node_facts : (k : Head) → Fair k → (e : ℕ) → opens false (calls_for k) (λ b n. many (walk d b s) n p) ≡ End e → facts_of k E S W p ≡ facts_true (Tree k)
+  node_facts : (k : Head) → Fair k → (e : ℕ) → opens false (calls_for k) (λ b n. many (walk d b s) n p) ≡ Ok e → facts_of k E S W p ≡ facts_true (Tree k)
   unfolding facts_of opens node lower low
   node_facts Missing f e h = bad_end h
   node_facts Faulty f e h = bad_end h
@@ -123,7 +122,7 @@ module _ (d : ℕ) (s E S W : List ℕ) (g : Ends s E) (p : ℕ) (m : Measured s
       ∙ sym (ap₂ (λ k l. facts_true (balanced_sum (btree k) l)) (count_cases (treev d s) (walk d true s) (n - 1) p ∙ z) (lows_cases d s (n - 1) p ∙ ap (λ k. lows d true s k p) z))
   node_facts (Payload n) f e h = bad_end h
 
-  payload_facts : (k : Head) (e : ℕ) → opens true (calls_for k) (λ b n. many (walk d b s) n p) ≡ End e → facts_of k E S W p ≡ facts_true (product_of (lowers (payload (calls_for k) (tree d s) (walk d false s) p)))
+  payload_facts : (k : Head) (e : ℕ) → opens true (calls_for k) (λ b n. many (walk d b s) n p) ≡ Ok e → facts_of k E S W p ≡ facts_true (product_of (lowers (payload (calls_for k) (tree d s) (walk d false s) p)))
   unfolding facts_of opens payload
   payload_facts Missing e h = bad_end h
   payload_facts Faulty e h = bad_end h
@@ -139,7 +138,7 @@ module _ (d : ℕ) (s E S W : List ℕ) (g : Ends s E) (p : ℕ) (m : Measured s
   payload_facts (Payload n) e h = row_facts n e h ∙ ap (λ l. facts_true (product_of l)) (sym (lows_kids d s n p))
 
 -- at each record of an accepted file
-pub facts_right : (d : ℕ) (v : Bool) (s E S W : List ℕ) (at e : ℕ) → Ends s E → Measured s S W (at + 1) → Fair (head_at s at) → walk d v s at ≡ End e → facts_of (head_at s at) E S W (at + 1) ≡ facts_true (low d v s at)
+pub facts_right : (d : ℕ) (v : Bool) (s E S W : List ℕ) (at e : ℕ) → Ends s E → Measured s S W (at + 1) → Fair (head_at s at) → walk d v s at ≡ Ok e → facts_of (head_at s at) E S W (at + 1) ≡ facts_true (low d v s at)
 unfolding walk low tree rec_at
 facts_right zero false s E S W at e g m f h = bad_end (opened false (rec_at s at) _ e h)
 facts_right zero true s E S W at e g m f h = bad_end (opened true (rec_at s at) _ e h)

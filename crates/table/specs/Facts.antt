@@ -1,5 +1,5 @@
 -- What the table holds of a record, computed from the entries of its children: sizes and widths cut at 65,537.
-use Rattle.std.specs.Prelude.{◌≡◌, List, ℕ, zero, suc, ◌+◌, ◌-◌, ◌*◌, ◌≤◌, min, max, Bool, get_or, eqb}
+use Rattle.std.specs.Prelude.{◌≡◌, List, ℕ, zero, suc, ◌+◌, ◌-◌, ◌*◌, ◌≤◌, min, max, Bool, get_or, eqb, Ok}
 use Rattle.model.specs.Options.{pick}
 use Rattle.model.specs.Balanced.{BTree, leaf, fork, btree}
 use Rattle.model.specs.Structural.{SType}
@@ -8,7 +8,6 @@ use Rattle.types.specs.declared.Head.{Head}
 use Rattle.types.specs.declared.Head.TheVariants.{Missing, Faulty, Never, Boolean, UInt, Either, Opt, Tuple, Array, Listed, Variants, Payload}
 use Rattle.model.specs.Frames.{width}
 use Rattle.model.proofs.Laws.Sizes.{nodes}
-use Rattle.types.specs.declared.Walk.TheVariants.{End}
 use Rattle.types.specs.Walks.{walk}
 use Rattle.types.specs.Lows.{low}
 use Rattle.table.specs.declared.Facts as facts
@@ -92,5 +91,5 @@ facts_true t = record { size = cut (nodes t); width = cut (Rattle.model.specs.Fr
 
 -- from record a on the table says what stands at each record
 pub record Measured (s S W : List ℕ) (a : ℕ) : Type 0 where
-  pub size : (i d e : ℕ) (v : Bool) → a ≤ i → walk d v s i ≡ End e → get_or S i 0 ≡ cut (nodes (low d v s i))
-  pub width : (i d e : ℕ) (v : Bool) → a ≤ i → walk d v s i ≡ End e → get_or W i 0 ≡ cut (Rattle.model.specs.Frames.width (low d v s i))
+  pub size : (i d e : ℕ) (v : Bool) → a ≤ i → walk d v s i ≡ Ok e → get_or S i 0 ≡ cut (nodes (low d v s i))
+  pub width : (i d e : ℕ) (v : Bool) → a ≤ i → walk d v s i ≡ Ok e → get_or W i 0 ≡ cut (Rattle.model.specs.Frames.width (low d v s i))

@@ -1,15 +1,15 @@
 -- Rows 6 and 7 by records: something holds of some type in a type, or of some payload type in it, exactly when it holds at some record of its file.
-use Rattle.std.specs.Prelude.{◌≡◌, List, Bool}
+use Rattle.std.specs.Prelude.{◌≡◌, List, Bool, Result, Ok}
 use Rattle.std.proofs.Math.Path.{refl, ap, ap₂}
 use Rattle.std.proofs.Common.{sym, ◌∙◌, zero-add, suc-add}
 use Rattle.std.proofs.Math.Bool.{true, false, ◌||◌}
 use Prim.Native.Nat.{ℕ, zero, suc, ◌+◌, ◌-◌, ◌≤◌, ◌<◌}
 use native.Mathlib.Omega.{arith}
 use Rattle.model.specs.Types.{Ty, Tys, Variants, never, bool, uint, either, option, tuple, array, list, enum, nil, cons, last, more}
+use Rattle.reply.specs.declared.Refusal.{Refusal}
 use Rattle.types.specs.declared.Head.{Head}
 use Rattle.types.specs.declared.Head.TheVariants.{Missing, Faulty, Never, Boolean, UInt, Either, Opt, Tuple, Array, Listed, Payload}
 use Rattle.types.specs.declared.Head.TheVariants as head
-use Rattle.types.specs.declared.Walk.TheVariants.{End}
 use Rattle.types.specs.Record.{head_at, calls_for, rec_at}
 use Rattle.types.specs.Walks.{opens, many, walk}
 use Rattle.types.specs.Trees.{end_of, kids, cases, node, payload, tree, treev}
@@ -59,15 +59,15 @@ module _ (F : Ty → Bool) (G : Tys → Bool) where
     in_variants (more ts vs) = (G ts || among ts) || in_variants vs
 
   -- by records: f says it at each record
-  module _ (s : List ℕ) (f : ℕ → Bool) (h : (d i e : ℕ) → walk d false s i ≡ End e → f i ≡ F (tree d s i)) (k : (d i e : ℕ) → walk d true s i ≡ End e → f i ≡ G (treev d s i)) where
+  module _ (s : List ℕ) (f : ℕ → Bool) (h : (d i e : ℕ) → walk d false s i ≡ Ok e → f i ≡ F (tree d s i)) (k : (d i e : ℕ) → walk d true s i ≡ Ok e → f i ≡ G (treev d s i)) where
     abbrev AtType : ℕ → Type 0
-    AtType d = (p e : ℕ) → walk d false s p ≡ End e → flagged f p (e - p) ≡ anywhere (tree d s p)
+    AtType d = (p e : ℕ) → walk d false s p ≡ Ok e → flagged f p (e - p) ≡ anywhere (tree d s p)
 
     abbrev AtVariant : ℕ → Type 0
-    AtVariant d = (p e : ℕ) → walk d true s p ≡ End e → flagged f p (e - p) ≡ G (treev d s p) || among (treev d s p)
+    AtVariant d = (p e : ℕ) → walk d true s p ≡ Ok e → flagged f p (e - p) ≡ G (treev d s p) || among (treev d s p)
 
     -- rows go on
-    many_up : (d : ℕ) (v : Bool) (n p e : ℕ) → many (walk d v s) n p ≡ End e → p ≤ e
+    many_up : (d : ℕ) (v : Bool) (n p e : ℕ) → many (walk d v s) n p ≡ Ok e → p ≤ e
     unfolding many
     many_up d v zero p e q = let z : p ≡ e = cc in omega arith
     many_up d v (suc n) p e q =
@@ -83,14 +83,14 @@ module _ (F : Ty → Bool) (G : Tys → Bool) where
         let r = many_up d v n (end_of (walk d v s p)) e x.rest in
         ap (flagged f p) (omega arith) ∙ flagged_add f p (x.end - p) (e - x.end) ∙ ap₂ (λ a b. flagged f p (x.end - p) || flagged f a b) (omega arith) (omega arith)
 
-    kids_flagged : (d : ℕ) → AtType d → (n p e : ℕ) → many (walk d false s) n p ≡ End e → flagged f p (e - p) ≡ among (kids (tree d s) (walk d false s) n p)
+    kids_flagged : (d : ℕ) → AtType d → (n p e : ℕ) → many (walk d false s) n p ≡ Ok e → flagged f p (e - p) ≡ among (kids (tree d s) (walk d false s) n p)
     unfolding many kids anywhere flagged
     kids_flagged d ih zero p e q = let z : p ≡ e = cc in let o : e - p ≡ 0 = omega arith in ap (flagged f p) o
     kids_flagged d ih (suc n) p e q =
         let x = first_of d false s n p e q in
         row d false n p e x ∙ ap₂ ◌||◌ (ih p x.end x.walks) (kids_flagged d ih n (end_of (walk d false s p)) e x.rest)
 
-    cases_flagged : (d : ℕ) → AtVariant d → (n p e : ℕ) → many (walk d true s) (suc n) p ≡ End e → flagged f p (e - p) ≡ in_variants (cases (treev d s) (walk d true s) n p)
+    cases_flagged : (d : ℕ) → AtVariant d → (n p e : ℕ) → many (walk d true s) (suc n) p ≡ Ok e → flagged f p (e - p) ≡ in_variants (cases (treev d s) (walk d true s) n p)
     unfolding cases anywhere flagged many
     cases_flagged d iv zero p e q =
         let x = first_of d true s 0 p e q in
@@ -101,7 +101,7 @@ module _ (F : Ty → Bool) (G : Tys → Bool) where
         let x = first_of d true s (suc n) p e q in
         row d true (suc n) p e x ∙ ap₂ ◌||◌ (iv p x.end x.walks) (cases_flagged d iv n (end_of (walk d true s p)) e x.rest)
 
-    none_below : (b : Bool) (p e : ℕ) → End p ≡ End e → b || flagged f p (e - p) ≡ b
+    none_below : (b : Bool) (p e : ℕ) → ◌≡◌ {A = Result ℕ Refusal} (Ok p) (Ok e) → b || flagged f p (e - p) ≡ b
     unfolding flagged
     none_below b p e q = let z : p ≡ e = cc in let o : e - p ≡ 0 = omega arith in ap (λ n. b || flagged f p n) o ∙ or_false b
 
@@ -110,7 +110,7 @@ module _ (F : Ty → Bool) (G : Tys → Bool) where
     unfolding flagged
     here p e l = let o : e - p ≡ suc (e - (p + 1)) = omega arith in ap (flagged f p) o
 
-    below : (d : ℕ) → AtType d → AtVariant d → (x : Head) (p e : ℕ) → (x ≡ head.Variants 0 → ⊥) → opens false (calls_for x) (λ b n. many (walk d b s) n p) ≡ End e
+    below : (d : ℕ) → AtType d → AtVariant d → (x : Head) (p e : ℕ) → (x ≡ head.Variants 0 → ⊥) → opens false (calls_for x) (λ b n. many (walk d b s) n p) ≡ Ok e
         → F (node x (tree d s) (walk d false s) (treev d s) (walk d true s) p) || flagged f p (e - p) ≡ anywhere (node x (tree d s) (walk d false s) (treev d s) (walk d true s) p)
     unfolding opens node anywhere many kids
     below d ih iv Missing p e o q = bad_end q
@@ -127,7 +127,7 @@ module _ (F : Ty → Bool) (G : Tys → Bool) where
     below d ih iv (head.Variants (suc n)) p e o q = let z : suc n - 1 ≡ n = omega arith in rw (z, cases_flagged d iv n p e q) refl
     below d ih iv (Payload n) p e o q = bad_end q
 
-    below_variant : (d : ℕ) → AtType d → (x : Head) (p e : ℕ) → opens true (calls_for x) (λ b n. many (walk d b s) n p) ≡ End e → flagged f p (e - p) ≡ among (payload (calls_for x) (tree d s) (walk d false s) p)
+    below_variant : (d : ℕ) → AtType d → (x : Head) (p e : ℕ) → opens true (calls_for x) (λ b n. many (walk d b s) n p) ≡ Ok e → flagged f p (e - p) ≡ among (payload (calls_for x) (tree d s) (walk d false s) p)
     unfolding opens payload
     below_variant d ih Missing p e q = bad_end q
     below_variant d ih Faulty p e q = bad_end q
@@ -152,5 +152,5 @@ module _ (F : Ty → Bool) (G : Tys → Bool) where
         (λ p e q. here p e (up (suc d) true s p e q) ∙ ap₂ ◌||◌ (k (suc d) p e q) (below_variant d ih (head_at s p) (p + 1) e q)),
       )
 
-      pub flagged_type : (d p e : ℕ) → walk d false s p ≡ End e → flagged f p (e - p) ≡ anywhere (tree d s p)
+      pub flagged_type : (d p e : ℕ) → walk d false s p ≡ Ok e → flagged f p (e - p) ≡ anywhere (tree d s p)
       flagged_type d = (both d).0

@@ -7,7 +7,5 @@ pub mod Entries
 pub mod Flags
 pub mod Lowering
 pub mod Steps
-pub mod Arms
-pub mod Halves
 pub mod Measuring
 pub mod Tabled

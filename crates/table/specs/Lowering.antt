@@ -1,5 +1,5 @@
 -- Rows 6 and 7 of a type, from its file and its table: Never stands at some record; some entry's size is over 65,536.
-use Rattle.std.specs.Prelude.{◌≡◌, List, Bool, ◌||◌, ltb, length, get_or}
+use Rattle.std.specs.Prelude.{◌≡◌, List, Bool, ◌||◌, ltb, length, get_or, Ok}
 use Rattle.std.proofs.Math.Path.{refl, ap}
 use Rattle.std.proofs.Common.{sym, ap₂, ◌∙◌, arith, ltb-true, ltb-false, lt-ltb, le-ltb}
 use Rattle.std.proofs.Math.Bool.{true, false}
@@ -13,7 +13,6 @@ use Rattle.model.proofs.Laws.Sizes.{nodes, length_type_records}
 use Rattle.types.specs.declared.Head.{Head}
 use Rattle.types.specs.declared.Head.TheVariants.{Missing, Faulty, Never, Boolean, UInt, Either, Opt, Tuple, Array, Listed, Payload}
 use Rattle.types.specs.declared.Head.TheVariants as head
-use Rattle.types.specs.declared.Walk.TheVariants.{End}
 use Rattle.types.specs.Record.{head_at, calls_for, rec_at}
 use Rattle.types.specs.Walks.{opens, many, walk}
 use Rattle.types.specs.Trees.{node, tree, treev}
@@ -37,6 +36,20 @@ is_never (Array n) = false
 is_never (Listed b) = false
 is_never (head.Variants n) = false
 is_never (Payload n) = false
+
+pub not_never : (h : Head) → (h ≡ Never → ⊥) → false ≡ is_never h
+not_never Missing n = refl
+not_never Faulty n = refl
+not_never Never n = absurd (n refl)
+not_never Boolean n = refl
+not_never (UInt w) n = refl
+not_never Either n = refl
+not_never Opt n = refl
+not_never (Tuple k) n = refl
+not_never (Array k) n = refl
+not_never (Listed b) n = refl
+not_never (head.Variants k) n = refl
+not_never (Payload k) n = refl
 
 abbrev type_is_never : Ty → Bool
 type_is_never never = true
@@ -79,7 +92,7 @@ unfoldable pub never_at : List ℕ → ℕ → Bool
 never_at s i = is_never (head_at s i)
 
 module _ (s : List ℕ) where
-  type_heads : (d p e : ℕ) (k : Head) → opens false (calls_for k) (λ b n. many (walk d b s) n p) ≡ End e → is_never k ≡ type_is_never (node k (tree d s) (walk d false s) (treev d s) (walk d true s) p)
+  type_heads : (d p e : ℕ) (k : Head) → opens false (calls_for k) (λ b n. many (walk d b s) n p) ≡ Ok e → is_never k ≡ type_is_never (node k (tree d s) (walk d false s) (treev d s) (walk d true s) p)
   unfolding opens node
   type_heads d p e Missing q = bad_end q
   type_heads d p e Faulty q = bad_end q
@@ -94,7 +107,7 @@ module _ (s : List ℕ) where
   type_heads d p e (head.Variants n) q = refl
   type_heads d p e (Payload n) q = bad_end q
 
-  variant_heads : (d p e : ℕ) (k : Head) → opens true (calls_for k) (λ b n. many (walk d b s) n p) ≡ End e → is_never k ≡ false
+  variant_heads : (d p e : ℕ) (k : Head) → opens true (calls_for k) (λ b n. many (walk d b s) n p) ≡ Ok e → is_never k ≡ false
   unfolding opens
   variant_heads d p e Missing q = refl
   variant_heads d p e Faulty q = refl
@@ -109,18 +122,18 @@ module _ (s : List ℕ) where
   variant_heads d p e (head.Variants n) q = refl
   variant_heads d p e (Payload n) q = refl
 
-  type_never : (d i e : ℕ) → walk d false s i ≡ End e → never_at s i ≡ type_is_never (tree d s i)
+  type_never : (d i e : ℕ) → walk d false s i ≡ Ok e → never_at s i ≡ type_is_never (tree d s i)
   unfolding walk tree rec_at never_at
   type_never zero i e q = bad_end (opened false (rec_at s i) _ e q)
   type_never (suc d) i e q = type_heads d (i + 1) e (head_at s i) q
 
-  variant_never_no : (d i e : ℕ) → walk d true s i ≡ End e → never_at s i ≡ false
+  variant_never_no : (d i e : ℕ) → walk d true s i ≡ Ok e → never_at s i ≡ false
   unfolding walk rec_at never_at
   variant_never_no zero i e q = bad_end (opened true (rec_at s i) _ e q)
   variant_never_no (suc d) i e q = variant_heads d (i + 1) e (head_at s i) q
 
   -- Never stands anywhere exactly when it stands at some record
-  pub never_flagged : ((i : ℕ) → head_at s i ≡ head.Variants 0 → ⊥) → (d e : ℕ) → walk d false s 0 ≡ End e → flagged (never_at s) 0 e ≡ has_never (tree d s 0)
+  pub never_flagged : ((i : ℕ) → head_at s i ≡ head.Variants 0 → ⊥) → (d e : ℕ) → walk d false s 0 ≡ Ok e → flagged (never_at s) 0 e ≡ has_never (tree d s 0)
   never_flagged f d e q = ap (flagged (never_at s) 0) (sym (sub-zero e)) ∙ flagged_type type_is_never no_variant s (never_at s) type_never variant_never_no f d 0 e q ∙ never_anywhere (tree d s 0)
 
 -- ROW 7
@@ -159,7 +172,7 @@ cut_large t n e = go (ltb most_shape_records (length (type_records t))) refl
     go false h = let l : length (type_records t) ≤ most_shape_records = ltb-false _ _ h in le-ltb most_shape_records n (omega (arith, length_type_records t))
 
 module _ (s S W : List ℕ) (m : Measured s S W 0) where
-  pub large_flagged : ((i : ℕ) → head_at s i ≡ head.Variants 0 → ⊥) → (d e : ℕ) → walk d false s 0 ≡ End e → flagged (large_at S) 0 e ≡ over_large (tree d s 0)
+  pub large_flagged : ((i : ℕ) → head_at s i ≡ head.Variants 0 → ⊥) → (d e : ℕ) → walk d false s 0 ≡ Ok e → flagged (large_at S) 0 e ≡ over_large (tree d s 0)
   unfolding large_at low
   large_flagged f d e q =
       ap (flagged (large_at S) 0) (sym (sub-zero e)) ∙ flagged_type (λ t. large (lower t)) (λ ts. large (product_of (lowers ts))) s (large_at S)

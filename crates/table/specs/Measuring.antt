@@ -1,22 +1,17 @@
 -- The loop that fills the table, from the last record to the first: what one step does, what holds between the steps, and what it comes to.
-use Rattle.std.specs.Prelude.{◌≡◌, refl, List, Bool, true, false, ◌||◌, ℕ, zero, suc, ◌+◌, ◌-◌, ◌≤◌, ◌<◌, ◌/◌, eqb, ltb, length, get_or, set, take, drop}
-use Rattle.std.proofs.Common.{sym, ap, ap₂, subst, ◌∙◌, arith, length-set, length-take, length-drop, get_or-set_same, get_or-set_other}
+use Rattle.std.specs.Prelude.{◌≡◌, refl, List, Bool, true, false, ◌||◌, ℕ, zero, suc, ◌+◌, ◌-◌, ◌≤◌, ◌<◌, ◌/◌, eqb, ltb, length, get_or, set, Option, Some, None, Ok}
+use Rattle.std.proofs.Common.{sym, ap, ap₂, subst, ◌∙◌, arith, length-set, get_or-set_same, get_or-set_other}
 use Rattle.std.proofs.Math.Decide.{dec_le}
+use Rattle.std.proofs.Math.Bool.{or_comm}
 use Rattle.std.proofs.lemmas.Bool.{eqb-false}
 use Rattle.model.specs.Options.{pick}
 use Rattle.model.specs.Numbers.{most_shape_records}
 use Rattle.model.specs.Frames.{width}
 use Rattle.model.proofs.Laws.Sizes.{nodes}
 use Rattle.model.specs.Lowering.{has_never, over_large}
-use Rattle.num.specs.declared.Bound.{Bound}
-use Rattle.num.specs.declared.Bound.TheVariants as bounds
-use Rattle.num.specs.declared.Width.{Width}
-use Rattle.num.specs.declared.Width.TheVariants as bit_widths
 use Rattle.num.specs.Powers.{bound_of, width_of}
 use Rattle.types.specs.declared.Head.{Head}
 use Rattle.types.specs.declared.Head.TheVariants.{Missing, Faulty, Never, Boolean, UInt, Either, Opt, Tuple, Array, Listed, Variants, Payload}
-use Rattle.types.specs.declared.Walk.TheVariants.{End}
-use Rattle.types.specs.declared.TypeAnswer.TheVariants.{Ok}
 use Rattle.types.specs.Record.{by_width, by_bound, head_of, head_at}
 use Rattle.types.specs.Heads.{Fair}
 use Rattle.types.specs.Walks.{walk}
@@ -30,8 +25,9 @@ use Rattle.table.specs.declared.Flags as flags
 use Rattle.table.specs.Facts.{cut, facts_of, facts_true, Measured}
 use Rattle.table.specs.Entries.{facts_right}
 use Rattle.table.specs.Flags.{flagged}
-use Rattle.table.specs.Halves.{second_half, put_first, put_second}
 use Rattle.table.specs.Lowering.{never_at, large_at, is_never, never_flagged, large_flagged}
+use Rattle.num.specs.declared.Pow2Usize.{Pow2Usize}
+use Rattle.num.specs.declared.NonZeroPow2Usize.{NonZeroPow2Usize}
 
 -- what the loop is given: an accepted file of n records, its ends, and columns that are long enough
 pub record Measurable (s E S W : List ℕ) (n : ℕ) : Type 0 where
@@ -70,12 +66,6 @@ entered s E S W i h f x y eh fh ef ex ey =
       widths = ap (λ (f : facts.Facts). set W i f.width) same;
     }
 
--- the same of the halves of one slice
-pub entered_halves : (s E F : List ℕ) (i : ℕ) (h : Head) (f : facts.Facts) (x y : Bool) → i < 1024 → h ≡ head_at s i → Fair h → f ≡ facts_of h E (take 1024 F) (take (length F - 1024) (drop 1024 F)) (i + 1) → x ≡ is_never h → y ≡ ltb most_shape_records f.size → Entered s E i (take 1024 F) (drop 1024 F) (record { never = x; large = y }) (take 1024 (set (set F i f.size) (1024 + i) f.width)) (drop 1024 (set (set F i f.size) (1024 + i) f.width))
-entered_halves s E F i h f x y l eh fh ef ex ey =
-    rw (put_first F i f.size f.width l, put_second F i f.size f.width l)
-    (entered s E (take 1024 F) (drop 1024 F) i h f x y eh fh (ef ∙ ap (λ l. facts_of h E (take 1024 F) l (i + 1)) (second_half F)) ex ey)
-
 -- BETWEEN THE STEPS: the records from i on are put down
 
 pub record Filling (s E : List ℕ) (n i : ℕ) (x y : Bool) (S W : List ℕ) : Type 0 where
@@ -89,7 +79,7 @@ pub filling_start : (s E S W : List ℕ) (n : ℕ) → Measurable s E S W n → 
 unfolding flagged
 filling_start s E S W n m =
     let (w, l) = ends_whole s n m.accepted in
-    let out : (i d e : ℕ) (v : Bool) → n ≤ i → walk d v s i ≡ End e → ⊥ = λ i d e v h q. let k = inside d v s i e q in omega arith in
+    let out : (i d e : ℕ) (v : Bool) → n ≤ i → walk d v s i ≡ Ok e → ⊥ = λ i d e v h q. let k = inside d v s i e q in omega arith in
     let none : n - n ≡ 0 = omega arith in
     record {
       given = m;
@@ -122,7 +112,7 @@ filling_at s E S W S' W' n i x y x' y' r g t ex ey =
     let here_width : get_or W' i 0 ≡ f.width = ap (λ l. get_or l i 0) t.widths ∙ get_or-set_same W i f.width 0 m in
     let past_size : (j : ℕ) → i + 1 ≤ j → get_or S' j 0 ≡ get_or S j 0 = λ j h. ap (λ l. get_or l j 0) t.sizes ∙ get_or-set_other S i j f.size 0 (apart i j h) in
     let past_width : (j : ℕ) → i + 1 ≤ j → get_or W' j 0 ≡ get_or W j 0 = λ j h. ap (λ l. get_or l j 0) t.widths ∙ get_or-set_other W i j f.width 0 (apart i j h) in
-    let right : (d e : ℕ) (v : Bool) → walk d v s i ≡ End e → f ≡ facts_true (low d v s i) = λ d e v q. facts_right d v s E S W i e g.given.ends g.measured t.fair q in
+    let right : (d e : ℕ) (v : Bool) → walk d v s i ≡ Ok e → f ≡ facts_true (low d v s i) = λ d e v q. facts_right d v s E S W i e g.given.ends g.measured t.fair q in
     record {
       given = record { ends = g.given.ends; accepted = g.given.accepted; sizes = let b = g.given.sizes in omega arith; widths = let b = g.given.widths in omega arith };
       within = let a = g.within in omega arith;
@@ -144,49 +134,41 @@ filling_at s E S W S' W' n i x y x' y' r g t ex ey =
         go (yes k) = let e : i ≡ j = omega arith in subst P e (f e)
         go (no k) = g (omega arith)
 
-pub filling_next : {s E S W S' W' : List ℕ} {n i : ℕ} {x y : Bool} (x' y' : Bool) (r : flags.Flags) → Filling s E n i x y S W → 0 < i → Entered s E (i - 1) S W r S' W' → x' ≡ r.never || x → y' ≡ r.large || y → Filling s E n (i - 1) x' y' S' W'
+pub filling_next : {s E S W S' W' : List ℕ} {n i : ℕ} {x y : Bool} (x' y' : Bool) (r : flags.Flags) → Filling s E n i x y S W → 0 < i → Entered s E (i - 1) S W r S' W' → x' ≡ x || r.never → y' ≡ y || r.large → Filling s E n (i - 1) x' y' S' W'
 filling_next {s} {E} {S} {W} {S'} {W'} {n} {i} {x} {y} x' y' r g h t ex ey =
     let z : i ≡ (i - 1) + 1 = omega arith in
-    filling_at s E S W S' W' n (i - 1) x y x' y' r (subst (λ i. Filling s E n i x y S W) z g) t ex ey
-
--- the next record's places in one slice whose halves are filled
-pub filling_places : {s E : List ℕ} {n i : ℕ} {x y : Bool} (F : List ℕ) → Filling s E n i x y (take 1024 F) (drop 1024 F) → 0 < i → (i - 1 < 1024) × (1024 + (i - 1) < length F)
-filling_places F g h =
-    let a = g.within in
-    let b = g.given.sizes in
-    let c = g.given.widths in
-    (omega (arith, length-take 1024 F), omega (arith, length-drop 1024 F))
+    filling_at s E S W S' W' n (i - 1) x y x' y' r (subst (λ i. Filling s E n i x y S W) z g) t (ex ∙ or_comm x r.never) (ey ∙ or_comm y r.large)
 
 -- ALL OF THEM
 
 -- a record says 0 Variants in no file
-abbrev Some : Head → Type 0
-Some Missing = Unit
-Some Faulty = Unit
-Some Never = Unit
-Some Boolean = Unit
-Some (UInt w) = Unit
-Some Either = Unit
-Some Opt = Unit
-Some (Tuple n) = Unit
-Some (Array n) = Unit
-Some (Listed b) = Unit
-Some (Variants n) = n ≡ 0 → ⊥
-Some (Payload n) = Unit
+abbrev HasVariants : Head → Type 0
+HasVariants Missing = Unit
+HasVariants Faulty = Unit
+HasVariants Never = Unit
+HasVariants Boolean = Unit
+HasVariants (UInt w) = Unit
+HasVariants Either = Unit
+HasVariants Opt = Unit
+HasVariants (Tuple n) = Unit
+HasVariants (Array n) = Unit
+HasVariants (Listed b) = Unit
+HasVariants (Variants n) = n ≡ 0 → ⊥
+HasVariants (Payload n) = Unit
 
-both : (b : Bool) (x y : Head) → (b ≡ true → Some x) → (b ≡ false → Some y) → Some (pick b x y)
+both : (b : Bool) (x y : Head) → (b ≡ true → HasVariants x) → (b ≡ false → HasVariants y) → HasVariants (pick b x y)
 both true x y f g = f refl
 both false x y f g = g refl
 
-some_width : (w : Width) → Some (by_width w)
-some_width (bit_widths.Of w) = tt
-some_width bit_widths.Not = tt
+some_width : (w : Option Pow2Usize) → HasVariants (by_width w)
+some_width (Some w) = tt
+some_width None = tt
 
-some_bound : (b : Bound) → Some (by_bound b)
-some_bound (bounds.Of b) = tt
-some_bound bounds.Not = tt
+some_bound : (b : Option NonZeroPow2Usize) → HasVariants (by_bound b)
+some_bound (Some b) = tt
+some_bound None = tt
 
-some_of : (k z n : ℕ) → Some (head_of k z n)
+some_of : (k z n : ℕ) → HasVariants (head_of k z n)
 unfolding head_of
 some_of k z n =
     both (eqb z 0) _ _ (λ e.
@@ -204,7 +186,7 @@ some_of k z n =
 
 pub some_variants : (s : List ℕ) (i : ℕ) → head_at s i ≡ Variants 0 → ⊥
 unfolding head_at
-some_variants s i e = subst Some e (both (ltb i (length s / 4)) _ _ (λ h. some_of _ _ _) (λ h. tt)) refl
+some_variants s i e = subst HasVariants e (both (ltb i (length s / 4)) _ _ (λ h. some_of _ _ _) (λ h. tt)) refl
 
 pub filling_end : {s E S W : List ℕ} {n i : ℕ} {x y : Bool} → Filling s E n i x y S W → i ≤ 0 → Measures s (record { never = x; large = y }) S W
 filling_end {s} {E} {S} {W} {n} {i} {x} {y} g h =

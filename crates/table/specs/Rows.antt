@@ -1,11 +1,10 @@
 -- Rows of records one after the other: where m of them end, and that m and then n of them are m + n.
-use Rattle.std.specs.Prelude.{◌≡◌, Bool, take, drop}
+use Rattle.std.specs.Prelude.{◌≡◌, Bool, take, drop, Ok}
 use Rattle.std.proofs.Math.Path.{refl, ap}
 use Rattle.std.proofs.Common.{sym, ◌∙◌, zero-add, suc-add}
 use mathlib.Core.List.{List, ◌∷◌}
 use Prim.Native.Nat.{ℕ, zero, suc, ◌+◌}
 use Rattle.model.specs.Structural.{SType}
-use Rattle.types.specs.declared.Walk.TheVariants.{End}
 use Rattle.types.specs.Walks.{next, many, walk}
 use Rattle.types.specs.Trees.{end_of}
 use Rattle.types.specs.Unique.{nexts}
@@ -35,14 +34,14 @@ module _ (d : ℕ) (v : Bool) (s : List ℕ) where
   -- the first of n, and the others
   pub record First (n p e : ℕ) : Type 0 where
     pub end : ℕ
-    pub walks : walk d v s p ≡ End end
-    pub rest : many (walk d v s) n (end_of (walk d v s p)) ≡ End e
+    pub walks : walk d v s p ≡ Ok end
+    pub rest : many (walk d v s) n (end_of (walk d v s p)) ≡ Ok e
 
-  pub first_of : (n p e : ℕ) → many (walk d v s) (suc n) p ≡ End e → First n p e
+  pub first_of : (n p e : ℕ) → many (walk d v s) (suc n) p ≡ Ok e → First n p e
   unfolding many
   first_of n p e h = let (m, q, r) = nexts (walk d v s p) (many (walk d v s) n) e h in record { end = m; walks = q; rest = rw q r }
 
-  pub split_row : (m n p e : ℕ) → many (walk d v s) (m + n) p ≡ End e → (many (walk d v s) m p ≡ End (skip m p)) × (many (walk d v s) n (skip m p) ≡ End e)
+  pub split_row : (m n p e : ℕ) → many (walk d v s) (m + n) p ≡ Ok e → (many (walk d v s) m p ≡ Ok (skip m p)) × (many (walk d v s) n (skip m p) ≡ Ok e)
   unfolding skip many next
   split_row zero n p e h = (refl, ap (λ k. many (walk d v s) k p) (sym (zero-add n)) ∙ h)
   split_row (suc m) n p e h =
@@ -50,5 +49,5 @@ module _ (d : ℕ) (v : Bool) (s : List ℕ) where
       let (x, y) = split_row m n (end_of (walk d v s p)) e f.rest in
       (ahead f x, y)
     where
-      ahead : First (m + n) p e → many (walk d v s) m (end_of (walk d v s p)) ≡ End (skip m (end_of (walk d v s p))) → many (walk d v s) (suc m) p ≡ End (skip m (end_of (walk d v s p)))
+      ahead : First (m + n) p e → many (walk d v s) m (end_of (walk d v s p)) ≡ Ok (skip m (end_of (walk d v s p))) → many (walk d v s) (suc m) p ≡ Ok (skip m (end_of (walk d v s p)))
       ahead f x = rw f.walks (rw f.walks at x)

@@ -1,21 +1,12 @@
 -- How the code's loops and calls go by one step, in the form in which its needs ask it.
-use Rattle.std.specs.Prelude.{◌≡◌, refl, List, ℕ, zero, suc, ◌+◌, ◌-◌, ◌≤◌, ◌<◌, max, length, get_or}
-use Rattle.std.proofs.Common.{sym, ap, ◌∙◌, sub-one, arith, eq-eqb, ne_eqb, Fits}
-use Rattle.std.proofs.Math.ListN.{get_or-eq_default}
+use Rattle.std.specs.Prelude.{◌≡◌, refl, List, ℕ, zero, suc, ◌+◌, ◌-◌, ◌≤◌, ◌<◌, max, get_or}
+use Rattle.std.proofs.Common.{sym, ap, ◌∙◌, sub-one, arith, Fits}
 use Rattle.std.specs.Int.{w64}
 use Rattle.model.specs.Balanced.{BTree, leaf, fork, btree, btree_split_index, grow}
 use Rattle.model.proofs.Laws.Balanced.{btree_fork, split_bounds}
 use Rattle.table.specs.declared.Facts as facts
 use Rattle.table.specs.declared.Sum as sum
-use Rattle.table.specs.Facts.{cut, entry, sums, sum_width, product}
-
--- READING A COLUMN
-
-pub past_end : (l : List ℕ) (i : ℕ) → length l ≤ i → 0 ≡ get_or l i 0
-past_end l i h = sym (get_or-eq_default l 0 h)
-
-pub past_entry : (l : List ℕ) (i : ℕ) → length l ≤ i → 0 ≡ entry l i
-past_entry l i h = ap cut (past_end l i h)
+use Rattle.table.specs.Facts.{cut, entry, sums, sum_width}
 
 -- ADDING UP
 
@@ -24,20 +15,17 @@ pub record Summing (E S W : List ℕ) (n p left q a b : ℕ) : Type 0 where
   pub small : a ≤ 65537
   pub narrow : b ≤ 65537
 
-pub summing_start : (E S W : List ℕ) (n p : ℕ) → Summing E S W n p n p 0 0
-summing_start E S W n p = record { rest = refl; small = omega arith; narrow = omega arith }
-
 one_more : (E S W : List ℕ) (left q a b : ℕ) → 0 < left → sums E S W left q a b ≡ sums E S W (left - 1) (get_or E q 0) (cut (a + entry S q)) (cut (b + entry W q))
 unfolding sums
 one_more E S W zero q a b h = absurd (omega arith)
 one_more E S W (suc left) q a b h = rw sub-one refl
 
-pub summing_next : {E S W : List ℕ} {n p left q a b : ℕ} (x y a' b' q' : ℕ) → Summing E S W n p left q a b → 0 < left → x ≡ entry S q → a' ≡ cut (a + x) → y ≡ entry W q → b' ≡ cut (b + y) → q' ≡ get_or E q 0 → Summing E S W n p (left - 1) q' a' b'
-summing_next {E} {S} {W} {n} {p} {left} {q} {a} {b} x y a' b' q' s l ex ea ey eb eq =
+pub summing_next : {E S W : List ℕ} {n p left q a b : ℕ} (x y a' b' q' r : ℕ) → Summing E S W n p left q a b → 0 < left → x ≡ entry S q → a' ≡ cut (a + x) → y ≡ entry W q → b' ≡ cut (b + y) → q' ≡ get_or E q 0 → r ≡ left - 1 → Summing E S W n p r q' a' b'
+summing_next {E} {S} {W} {n} {p} {left} {q} {a} {b} x y a' b' q' r s l ex ea ey eb eq er =
     let u : a' ≡ cut (a + entry S q) = ea ∙ ap (λ k. cut (a + k)) ex in
     let v : b' ≡ cut (b + entry W q) = eb ∙ ap (λ k. cut (b + k)) ey in
     record {
-      rest = s.rest ∙ one_more E S W left q a b l ∙ (λ i. sums E S W (left - 1) (sym eq i) (sym u i) (sym v i));
+      rest = s.rest ∙ one_more E S W left q a b l ∙ (λ i. sums E S W (sym er i) (sym eq i) (sym u i) (sym v i));
       small = omega arith;
       narrow = omega arith;
     }
@@ -51,6 +39,12 @@ pub sums_small : (E S W : List ℕ) (n p a b : ℕ) → a ≤ 65537 → (sums E 
 unfolding sums
 sums_small E S W zero p a b h = h
 sums_small E S W (suc n) p a b h = sums_small E S W n (get_or E p 0) (cut (a + entry S p)) (cut (b + entry W p)) (omega arith)
+
+pub sum_fits : (E S W : List ℕ) (n p : ℕ) (f : facts.Facts) → f ≡ sums E S W n p 0 0 → 1 ≤ n → n < 65536 → Fits w64 (f.size + (n - 1))
+sum_fits E S W n p f e o h = let k : f.size ≤ 65537 = rw e (sums_small E S W n p 0 0 (omega arith)) in record { fits = omega arith }
+
+pub row_small : (E S W : List ℕ) (n p : ℕ) (f : facts.Facts) → f ≡ sums E S W n p 0 0 → n < 65536 → (f.size ≤ 65537) × (n < 65536)
+row_small E S W n p f e h = (rw e (sums_small E S W n p 0 0 (omega arith)), h)
 
 -- SUMS
 
@@ -75,16 +69,6 @@ sum_fork n h E W p l r x w o eh el er ex ew =
     (λ i. record { next = r.next; width = v i })
     ∙ (λ i. record { next = (second i).next; width = cut (max (el i).width (second i).width + 1) })
     ∙ ap (λ k. sum_width (fork (btree k) (btree (n - k))) E W p) eh ∙ sym (ap (λ t. sum_width t E W p) (btree_fork n o))
-
--- PRODUCTS
-
-pub product_none : (f : facts.Facts) (n : ℕ) → n ≡ 0 → ◌≡◌ {A = facts.Facts} (record { size = 1; width = 0 }) (product f n)
-unfolding product
-product_none f n e = rw (eq-eqb n 0 e) refl
-
-pub product_some : (f : facts.Facts) (n x : ℕ) → (n ≡ 0 → ⊥) → x ≡ cut (f.size + (n - 1)) → ◌≡◌ {A = facts.Facts} (record { size = x; width = f.width }) (product f n)
-unfolding product
-product_some f n x h e = rw (ne_eqb n 0 h) (λ i. record { size = e i; width = f.width })
 
 -- the two sides of a balanced tree
 module _ (n h t : ℕ) where

@@ -1,12 +1,11 @@
 -- What the entries of a row of records add up to: the records and bits of what stands there, cut.
-use Rattle.std.specs.Prelude.{◌≡◌, List, Bool, get_or}
+use Rattle.std.specs.Prelude.{◌≡◌, List, Bool, get_or, Ok}
 use Rattle.std.proofs.Common.{sym, ap, ap₂, ◌∙◌, arith}
 use Prim.Native.Nat.{ℕ, zero, suc, ◌+◌, ◌≤◌, max}
 use Rattle.model.specs.Balanced.{BTree, leaf, fork, leaves, fold}
 use Rattle.model.specs.Structural.{balanced_sum}
 use Rattle.model.specs.Frames.{width}
 use Rattle.model.proofs.Laws.Sizes.{nodes, nodes_all, width_all}
-use Rattle.types.specs.declared.Walk.TheVariants.{End}
 use Rattle.types.specs.Walks.{many, walk}
 use Rattle.types.specs.Table.{Ends}
 use Rattle.types.specs.Trees.{end_of}
@@ -35,20 +34,20 @@ pub cut_max : (a b : ℕ) → cut (max (cut a) (cut b) + 1) ≡ cut (suc (max a 
 cut_max a b = omega arith
 
 module _ (d : ℕ) (v : Bool) (s E S W : List ℕ) (g : Ends s E) (low_place : ℕ) (m : Measured s S W low_place) where
-  pub entry_size : (p e : ℕ) → low_place ≤ p → walk d v s p ≡ End e → entry S p ≡ cut (nodes (low d v s p))
+  pub entry_size : (p e : ℕ) → low_place ≤ p → walk d v s p ≡ Ok e → entry S p ≡ cut (nodes (low d v s p))
   entry_size p e l h = ap cut (m.size p d e v l h) ∙ cut_cut (nodes (low d v s p))
 
-  pub entry_width : (p e : ℕ) → low_place ≤ p → walk d v s p ≡ End e → entry W p ≡ cut (width (low d v s p))
+  pub entry_width : (p e : ℕ) → low_place ≤ p → walk d v s p ≡ Ok e → entry W p ≡ cut (width (low d v s p))
   entry_width p e l h = ap cut (m.width p d e v l h) ∙ cut_cut (width (low d v s p))
 
-  pub next_place : (p e : ℕ) → walk d v s p ≡ End e → get_or E p 0 ≡ end_of (walk d v s p)
+  pub next_place : (p e : ℕ) → walk d v s p ≡ Ok e → get_or E p 0 ≡ end_of (walk d v s p)
   next_place p e h = g.at_each p d e v h ∙ sym (ap end_of h)
 
-  pub further : (p e : ℕ) → low_place ≤ p → walk d v s p ≡ End e → low_place ≤ end_of (walk d v s p)
+  pub further : (p e : ℕ) → low_place ≤ p → walk d v s p ≡ Ok e → low_place ≤ end_of (walk d v s p)
   further p e l h = rw h (let k = up d v s p e h in omega arith)
 
   -- added up from a and b on
-  pub sums_right : (n p e a b : ℕ) → low_place ≤ p → many (walk d v s) n p ≡ End e → sums E S W n p (cut a) (cut b) ≡ record { size = cut (a + nodes_all (lows d v s n p)); width = cut (b + width_all (lows d v s n p)) }
+  pub sums_right : (n p e a b : ℕ) → low_place ≤ p → many (walk d v s) n p ≡ Ok e → sums E S W n p (cut a) (cut b) ≡ record { size = cut (a + nodes_all (lows d v s n p)); width = cut (b + width_all (lows d v s n p)) }
   unfolding sums lows
   sums_right zero p e a b l h = same_facts (omega arith) (omega arith)
   sums_right (suc n) p e a b l h = go (first_of d v s n p e h) (sums_right n)
@@ -62,7 +61,7 @@ module _ (d : ℕ) (v : Bool) (s E S W : List ℕ) (g : Ends s E) (low_place : �
       q : ℕ
       q = end_of (walk d v s p)
 
-      go : First d v s n p e → ((p e a b : ℕ) → low_place ≤ p → many (walk d v s) n p ≡ End e → sums E S W n p (cut a) (cut b) ≡ record { size = cut (a + nodes_all (lows d v s n p)); width = cut (b + width_all (lows d v s n p)) })
+      go : First d v s n p e → ((p e a b : ℕ) → low_place ≤ p → many (walk d v s) n p ≡ Ok e → sums E S W n p (cut a) (cut b) ≡ record { size = cut (a + nodes_all (lows d v s n p)); width = cut (b + width_all (lows d v s n p)) })
           → sums E S W n (get_or E p 0) (cut (cut a + entry S p)) (cut (cut b + entry W p)) ≡ record { size = cut (a + (x + nodes_all (lows d v s n q))); width = cut (b + (y + width_all (lows d v s n q))) }
       go f ih =
           let here : get_or E p 0 ≡ q = next_place p f.end f.walks in
@@ -71,7 +70,7 @@ module _ (d : ℕ) (v : Bool) (s E S W : List ℕ) (g : Ends s E) (low_place : �
           (λ i. sums E S W n (here i) (size i) (wide i)) ∙ ih q e (a + x) (b + y) (further p f.end l f.walks) f.rest ∙ same_facts (omega arith) (omega arith)
 
   -- the width of the sum of what stands in a row, and the place after it
-  pub sum_right : (t : BTree) (p e : ℕ) → low_place ≤ p → many (walk d v s) (leaves t) p ≡ End e
+  pub sum_right : (t : BTree) (p e : ℕ) → low_place ≤ p → many (walk d v s) (leaves t) p ≡ Ok e
       → (sum_width t E W p ≡ record { next = skip d v s (leaves t) p; width = cut (width (balanced_sum t (lows d v s (leaves t) p))) }) × (low_place ≤ skip d v s (leaves t) p)
   unfolding sum_width lows skip fold
   sum_right leaf p e l h =

@@ -4,16 +4,18 @@
 ghost use Rattle.std.specs.Prelude.{◌≡◌, ◌<◌, ◌≤◌, length};
 ghost use Rattle.reply.specs.Numbers.{refusal_number};
 ghost use Rattle.structural.specs.Writing.{Wrote};
-ghost use Rattle.text.specs.Lines.{decimal, places, heading, in_digits, in_hex, line, spaced, job_lines, short_line, refusal_line, found_line, none_line, hex_digit as Lines·hex-digit};
+ghost use Rattle.text.specs.Lines.{decimal, heading, in_digits, in_hex, line, spaced, job_lines, short_line, refusal_line, found_line, none_line, hex_digit as Lines·hex-digit};
 ghost use Rattle.text.specs.Pieces.{shown};
 
-use reply::{Refusal, refusal_number};
+use itoa::Buffer;
+use reply::Refusal;
 
-const NEWLINE: u8 = 10;
+const NEWLINE: u8 = b'\n';
 
-const SPACE: u8 = 32;
+const SPACE: u8 = b' ';
 
 // How the contents of a line are shown: a digit a record, or two hexadecimal digits a byte.
+// An enum, and no closure that writes them: the clauses say by it what is shown, and of a closure they would speak through each description that fits it, which is no plainer.
 #[derive(Clone, Copy)]
 enum Contents {
     Records,
@@ -25,30 +27,7 @@ fn hex_digit(d: u8) -> u8
     requires { d < 16 }
     ensures { result ≡ Lines·hex-digit d }
 {
-    if d < 10 { 48 + d } else { 87 + d }
-}
-
-// Writes the decimal digits of n, none of 0, and answers how many.
-fn write_places(n: usize, out: &mut [u8]) -> usize
-    requires { length (places n n) ≤ length out.old }
-    ensures { Wrote (places n n) out.old out.new result }
-{
-    if n == 0 {
-        return 0;
-    }
-    let k = write_places(n / 10, out);
-    out[k] = 48 + (n % 10) as u8;
-    k + 1
-}
-
-// Writes n in decimal digits, and answers how many.
-fn write_decimal(n: usize, out: &mut [u8]) -> usize
-    requires { length (decimal n) ≤ length out.old }
-    ensures { Wrote (decimal n) out.old out.new result }
-{
-    let k = write_places(n / 10, out);
-    out[k] = 48 + (n % 10) as u8;
-    k + 1
+    if d < 10 { b'0' + d } else { b'a' + (d - 10) }
 }
 
 // Writes a name as it is, and answers its length.
@@ -56,12 +35,17 @@ fn write_name(name: &[u8], out: &mut [u8]) -> usize
     requires { length name.now ≤ length out.old }
     ensures { Wrote name.now out.old out.new result }
 {
-    let mut i = 0;
-    while i < name.len() {
-        out[i] = name[i];
-        i += 1;
-    }
-    i
+    let n = name.len();
+    out[..n].copy_from_slice(name);
+    n
+}
+
+// Writes n in decimal digits, and answers how many.
+fn write_decimal(n: usize, out: &mut [u8]) -> usize
+    requires { length (decimal n) ≤ length out.old }
+    ensures { Wrote (decimal n) out.old out.new result }
+{
+    write_name(Buffer::new().format(n).as_bytes(), out)
 }
 
 // Writes a name and a number, and answers the length.
@@ -80,29 +64,38 @@ pub fn write_digits(s: &[u8], out: &mut [u8]) -> usize
     requires { length (in_digits s.now) ≤ length out.old }
     ensures { Wrote (in_digits s.now) out.old out.new result }
 {
-    let mut i = 0;
-    while i < s.len() {
-        out[i] = 48 + s[i] % 10;
-        i += 1;
+    for (i, &b) in s.iter().enumerate() {
+        out[i] = b'0' + b % 10;
     }
-    i
+    s.len()
 }
 
 // Writes two hexadecimal digits for each byte, and answers how many.
+// Not by the crate `hex`: it fills a part that has to be cut out to just this length, and answers a `Result` that cannot fail here, which is no plainer than the loop.
 pub fn write_hex(s: &[u8], out: &mut [u8]) -> usize
     requires { length (in_hex s.now) ≤ length out.old }
     ensures { Wrote (in_hex s.now) out.old out.new result }
 {
-    let mut i = 0;
-    let mut k = 0;
-    while i < s.len() {
-        let b = s[i];
-        out[k] = hex_digit(b / 16);
-        out[k + 1] = hex_digit(b % 16);
-        k += 2;
-        i += 1;
+    for (i, &b) in s.iter().enumerate() {
+        out[2 * i] = hex_digit(b / 16);
+        out[2 * i + 1] = hex_digit(b % 16);
     }
-    k
+    2 * s.len()
+}
+
+impl Contents {
+    ghost use Rattle.text.specs.Pieces.{shown};
+
+    // Writes what shows these bytes, and answers its length.
+    fn write(self, s: &[u8], out: &mut [u8]) -> usize
+        requires { length (shown self s.now) ≤ length out.old }
+        ensures { Wrote (shown self s.now) out.old out.new result }
+    {
+        match self {
+            Contents::Records => write_digits(s, out),
+            Contents::Bytes => write_hex(s, out),
+        }
+    }
 }
 
 // Writes a space and the contents, nothing if they are empty, and answers the length.
@@ -110,14 +103,11 @@ fn write_contents(contents: Contents, s: &[u8], out: &mut [u8]) -> usize
     requires { length (spaced (shown contents s.now)) ≤ length out.old }
     ensures { Wrote (spaced (shown contents s.now)) out.old out.new result }
 {
-    if s.len() == 0 {
+    if s.is_empty() {
         return 0;
     }
     out[0] = SPACE;
-    match contents {
-        Contents::Records => write_digits(s, &mut out[1..]) + 1,
-        Contents::Bytes => write_hex(s, &mut out[1..]) + 1,
-    }
+    contents.write(s, &mut out[1..]) + 1
 }
 
 // Writes a line, and answers its length.
@@ -164,7 +154,7 @@ pub fn write_refused(x: Refusal, out: &mut [u8]) -> usize
     requires { 12 ≤ length out.old }
     ensures { Wrote (refusal_line (refusal_number x)) out.old out.new result }
 {
-    write_refusal(refusal_number(x) as usize, out)
+    write_refusal(u32::from(x) as usize, out)
 }
 
 // Writes the line of a search that found frame i, and answers its length.

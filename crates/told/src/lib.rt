@@ -5,9 +5,10 @@
 ghost use Rattle.std.specs.Prelude.{◌≡◌, ◌<◌, ◌/◌, length};
 ghost use Rattle.told.specs.Forms.{choice_at, form_of, Read, hops, Hops, after_at};
 ghost use Rattle.told.specs.Laws.Lists.{block_share};
+ghost use Rattle.types.specs.Entries.{ends};
 
 use num::NonZeroPow2Usize;
-use types::Head;
+use types::{Head, Table};
 use value::{number_of, wide};
 
 // What the parts of a product are, and where they stand in the type file.
@@ -64,27 +65,25 @@ pub fn form_of(h: Head, val: &[u8], v: usize) -> Form
 }
 
 // The record that stands n records behind record `at`, each with all below it.
-pub fn hop(ends: &[usize], at: usize, n: usize) -> usize
-    requires { Hops ends.now n at }
-    ensures { result ≡ hops ends.now n at }
+pub fn hop(table: &Table<'_>, at: usize, n: usize) -> usize
+    requires { Hops (ends table.now.entries.now) n at }
+    ensures { result ≡ hops (ends table.now.entries.now) n at }
 {
     let mut next = at;
-    let mut left = n;
-    while 0 < left {
-        next = ends[next];
-        left -= 1;
+    for _ in 0..n {
+        next = table.end(next);
     }
     next
 }
 
 // The record of the part after the one at `at`.
-pub fn after_part(ends: &[usize], at: usize, parts: Parts) -> usize
-    requires { at < length ends.now }
-    ensures { result ≡ after_at parts ends.now at }
+pub fn after_part(table: &Table<'_>, at: usize, parts: Parts) -> usize
+    requires { at < length (ends table.now.entries.now) }
+    ensures { result ≡ after_at parts (ends table.now.entries.now) at }
 {
     match parts {
         Parts::Copies => at,
-        Parts::Types => ends[at],
+        Parts::Types => table.end(at),
     }
 }
 

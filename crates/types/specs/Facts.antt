@@ -1,16 +1,14 @@
 -- How the walks of specs/ go by one step, in the form in which the code's needs ask it. Assumes nothing.
-use Rattle.reply.specs.declared.Refusal.TheVariants.{TooDeep}
-use Rattle.std.specs.Prelude.{◌≡◌, refl, List, Bool, true, false, length, ltb}
-use Rattle.std.proofs.Common.{sym, subst, ◌∙◌, arith, Fits, ltb-true}
-use Prim.Native.Nat.{ℕ, zero, suc, ◌+◌, ◌-◌, ◌^◌, ◌<◌, ◌≤◌, ◌/◌}
+use Rattle.reply.specs.declared.Refusal.TheVariants.{NotOneType, TooDeep}
+use Rattle.std.specs.Prelude.{◌≡◌, refl, List, Bool, true, false, length, ltb, Result, Ok, Err}
+use Rattle.std.proofs.Common.{sym, ap, subst, ◌∙◌, ltb-true}
+use Prim.Native.Nat.{ℕ, zero, suc, ◌+◌, ◌-◌, ◌<◌, ◌/◌}
 use Rattle.std.proofs.Math.Numerals.{sub-one}
-use Rattle.std.specs.Int.{w64}
 use Rattle.types.specs.declared.Rec.{Rec}
 use Rattle.types.specs.declared.Rec.TheVariants.{Gone, Wrong, Types, Enum, Variant}
-use Rattle.types.specs.declared.Walk.{Walk}
-use Rattle.types.specs.declared.Walk.TheVariants.{Bad}
 use Rattle.types.specs.Record.{head_at, rec_at}
-use Rattle.types.specs.Walks.{opens, next, many, walk}
+use Rattle.types.specs.Walks.{opens, children_of, next, many, walk}
+use Rattle.reply.specs.declared.Refusal.{Refusal}
 
 -- a record that is there stands before the end
 pub present : (s : List ℕ) (at : ℕ) (r : Rec) → r ≡ rec_at s at → (r ≡ Gone → ⊥) → at < length s / 4
@@ -31,35 +29,52 @@ There (Variant n) = Unit
 pub there : (s : List ℕ) (at : ℕ) (r k : Rec) → r ≡ rec_at s at → r ≡ k → There k → at < length s / 4
 there s at r k p e h = present s at r p (λ g. subst There (sym e ∙ g) h)
 
-pub many_more : (f : ℕ → Walk) (n at : ℕ) → (n ≡ 0 → ⊥) → many f n at ≡ next (f at) (many f (n - 1))
+pub many_more : (f : ℕ → Result ℕ Refusal) (n at : ℕ) → (n ≡ 0 → ⊥) → many f n at ≡ next (f at) (many f (n - 1))
 unfolding many
 many_more f zero at h = absurd (h refl)
 many_more f (suc n) at h = rw sub-one
 
-module _ (d : ℕ) (v : Bool) (s : List ℕ) (at : ℕ) (q k : Rec) (r : Walk) (p : q ≡ rec_at s at) (e : q ≡ k) where
-  pub walk_deep : d ≡ 0 → r ≡ opens v k (λ b n. Bad TooDeep) → r ≡ walk d v s at
+-- what is done with the children that a record calls for
+abbrev go_on : Result (Bool × ℕ) Refusal → (Bool → ℕ → Result ℕ Refusal) → Result ℕ Refusal
+go_on (Ok c) k = k c.0 c.1
+go_on (Err x) k = Err x
+
+opens_by : (v : Bool) (r : Rec) (k : Bool → ℕ → Result ℕ Refusal) → opens v r k ≡ go_on (children_of v r) k
+unfolding opens
+opens_by v Gone k = refl
+opens_by v Wrong k = refl
+opens_by false (Types n) k = refl
+opens_by false (Enum n) k = refl
+opens_by false (Variant n) k = refl
+opens_by true (Types n) k = refl
+opens_by true (Enum n) k = refl
+opens_by true (Variant n) k = refl
+
+-- r is the record at place `at`, and c says what it calls for
+module _ (v : Bool) (s : List ℕ) (at : ℕ) (r : Rec) (c : Result (Bool × ℕ) Refusal) (p : r ≡ rec_at s at) (o : c ≡ children_of v r) where
+  by_children : (k : Bool → ℕ → Result ℕ Refusal) → opens v (rec_at s at) k ≡ go_on c k
+  by_children k = rw (← p) (opens_by v r k ∙ ap (λ c. go_on c k) (sym o))
+
+  by_err : (x : Refusal) → c ≡ Err x → (k : Bool → ℕ → Result ℕ Refusal) → Err x ≡ opens v (rec_at s at) k
+  by_err x e k = sym (by_children k ∙ ap (λ c. go_on c k) e)
+
+  pub walk_bad : (d : ℕ) (x : Refusal) → c ≡ Err x → Err x ≡ walk d v s at
   unfolding walk
-  walk_deep z u = rw (z, ← p, e) u
+  walk_bad zero x e = by_err x e (λ b n. Err TooDeep)
+  walk_bad (suc d) x e = by_err x e (λ b n. many (walk d b s) n (at + 1))
 
-  walk_in : (d : ℕ) → (d ≡ 0 → ⊥) → r ≡ opens v k (λ b n. many (walk (d - 1) b s) n (at + 1)) → r ≡ walk d v s at
-  unfolding walk
-  walk_in zero h u = absurd (h refl)
-  walk_in (suc d) h u = rw (← p, e) (rw sub-one at u)
+  module _ (b : Bool) (n : ℕ) (e : c ≡ Ok (b, n)) where
+    by_ok : (k : Bool → ℕ → Result ℕ Refusal) → k b n ≡ opens v (rec_at s at) k
+    by_ok k = sym (by_children k ∙ ap (λ c. go_on c k) e)
 
-  pub walk_go : (d ≡ 0 → ⊥) → r ≡ opens v k (λ b n. many (walk (d - 1) b s) n (at + 1)) → r ≡ walk d v s at
-  walk_go = walk_in d
+    pub walk_deep : (d : ℕ) → d ≡ 0 → Err TooDeep ≡ walk d v s at
+    unfolding walk
+    walk_deep d z = rw z (by_ok (λ b n. Err TooDeep))
 
-  walk_not : (d : ℕ) → ((g : Bool → ℕ → Walk) → r ≡ opens v k g) → r ≡ walk d v s at
-  unfolding walk
-  walk_not zero h = rw (← p, e) (h _)
-  walk_not (suc d) h = rw (← p, e) (h _)
+    pub walk_go : (d : ℕ) → (d ≡ 0 → ⊥) → many (walk (d - 1) b s) n (at + 1) ≡ walk d v s at
+    unfolding walk
+    walk_go zero h = absurd (h refl)
+    walk_go (suc d) h = rw sub-one (by_ok (λ b n. many (walk d b s) n (at + 1)))
 
-  pub walk_bad : ((g : Bool → ℕ → Walk) → r ≡ opens v k g) → r ≡ walk d v s at
-  walk_bad = walk_not d
-
--- the forms in which the code's needs ask it
-pub fits_next : (s : List ℕ) (at : ℕ) (r k : Rec) → r ≡ rec_at s at → r ≡ k → There k → length s < 2 ^ 64 → Fits w64 (at + 1)
-fits_next s at r k p e h l = let m = there s at r k p e h in omega arith
-
-pub room_for : (s : List ℕ) (at : ℕ) (r k : Rec) (E E' : List ℕ) → r ≡ rec_at s at → r ≡ k → There k → length s / 4 ≤ length E → length E' ≡ length E → at < length E'
-room_for s at r k E E' p e h l m = let q = there s at r k p e h in omega arith
+    pub called : at < length s / 4
+    called = present s at r p (λ g. let z : Err NotOneType ≡ Ok (b, n) = ap (children_of v) (sym g) ∙ sym o ∙ e in cc)

@@ -1,5 +1,5 @@
 -- What the numbers of a type's records are: a width 1 to 256, a bound 2 to 32,768, a count below 65,536.
-use Rattle.std.specs.Prelude.{◌≡◌, refl, Bool, true, false, ℕ, suc, ◌+◌, ◌^◌, ◌<◌, ◌≤◌, eqb}
+use Rattle.std.specs.Prelude.{◌≡◌, refl, Bool, true, false, ℕ, suc, ◌+◌, ◌^◌, ◌<◌, ◌≤◌, eqb, Option, Some, None}
 use Rattle.std.proofs.Common.{sym, ap, subst, ◌∙◌, arith}
 use Rattle.std.proofs.Math.Option.{some}
 use Rattle.std.proofs.Math.Nat.{pow-le-pow_right, two-pow-succ, one-le-pow}
@@ -10,10 +10,6 @@ use Rattle.model.proofs.Laws.Options.{one_of_all}
 use Rattle.model.proofs.Laws.TypeFiles.{find_sound}
 use Rattle.num.specs.declared.NonZeroPow2Usize.{NonZeroPow2Usize}
 use Rattle.num.specs.declared.Pow2Usize.{Pow2Usize}
-use Rattle.num.specs.declared.Bound.{Bound}
-use Rattle.num.specs.declared.Bound.TheVariants as bounds
-use Rattle.num.specs.declared.Width.{Width}
-use Rattle.num.specs.declared.Width.TheVariants as bit_widths
 use Rattle.num.specs.Powers.{bound_of, bound_log2, width_of}
 use Rattle.num.specs.Laws.{bounded, bound_is, width_is}
 use Rattle.types.specs.declared.Head.{Head}
@@ -65,13 +61,13 @@ both : (b : Bool) (x y : Head) → (b ≡ true → Fair x) → (b ≡ false → 
 both true x y f g = f refl
 both false x y f g = g refl
 
-fair_width : (n : ℕ) (r : Width) → r ≡ width_of n → Fair (by_width r)
-fair_width n (bit_widths.Of w) e = let (o, f) = width_is n w e in rw f (record { admitted = o })
-fair_width n bit_widths.Not e = tt
+fair_width : (n : ℕ) (r : Option Pow2Usize) → r ≡ width_of n → Fair (by_width r)
+fair_width n (Some w) e = let (o, f) = width_is n w e in rw f (record { admitted = o })
+fair_width n None e = tt
 
-fair_bound : (n : ℕ) (r : Bound) → r ≡ bound_of n → Fair (by_bound r)
-fair_bound n (bounds.Of b) e = let (k, o, f) = bound_is n b e in rw f (record { exponent = k; admitted = o })
-fair_bound n bounds.Not e = tt
+fair_bound : (n : ℕ) (r : Option NonZeroPow2Usize) → r ≡ bound_of n → Fair (by_bound r)
+fair_bound n (Some b) e = let (k, o, f) = bound_is n b e in rw f (record { exponent = k; admitted = o })
+fair_bound n None e = tt
 
 pub fair_of : (k z n : ℕ) → n < 65536 → Fair (head_of k z n)
 unfolding head_of
@@ -95,15 +91,15 @@ fair_of k z n s =
 pub fair : (r k : Head) → Fair r → r ≡ k → Fair k
 fair r k f e = subst Fair e f
 
--- the arms of the code, by what `num` answers
-pub width_yes : (n : ℕ) (r : Width) (w : Pow2Usize) → r ≡ width_of n → r ≡ bit_widths.Of w → UInt w ≡ by_width (width_of n)
+-- what a UInt's and a List's record say, by what `num` answers
+pub width_yes : (n : ℕ) (r : Option Pow2Usize) (w : Pow2Usize) → r ≡ width_of n → r ≡ Some w → UInt w ≡ by_width (width_of n)
 width_yes n r w e f = ap by_width (sym f ∙ e)
 
-pub width_no : (n : ℕ) (r : Width) → r ≡ width_of n → r ≡ bit_widths.Not → Faulty ≡ by_width (width_of n)
+pub width_no : (n : ℕ) (r : Option Pow2Usize) → r ≡ width_of n → r ≡ None → Faulty ≡ by_width (width_of n)
 width_no n r e f = ap by_width (sym f ∙ e)
 
-pub bound_yes : (n : ℕ) (r : Bound) (b : NonZeroPow2Usize) → r ≡ bound_of n → r ≡ bounds.Of b → Listed b ≡ by_bound (bound_of n)
+pub bound_yes : (n : ℕ) (r : Option NonZeroPow2Usize) (b : NonZeroPow2Usize) → r ≡ bound_of n → r ≡ Some b → Listed b ≡ by_bound (bound_of n)
 bound_yes n r b e f = ap by_bound (sym f ∙ e)
 
-pub bound_no : (n : ℕ) (r : Bound) → r ≡ bound_of n → r ≡ bounds.Not → Faulty ≡ by_bound (bound_of n)
+pub bound_no : (n : ℕ) (r : Option NonZeroPow2Usize) → r ≡ bound_of n → r ≡ None → Faulty ≡ by_bound (bound_of n)
 bound_no n r e f = ap by_bound (sym f ∙ e)

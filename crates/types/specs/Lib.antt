@@ -12,3 +12,4 @@ pub mod Runs
 pub mod Tables
 pub mod Lows
 pub mod Model
+pub mod Entries

@@ -3,7 +3,7 @@
 -- One record is compared by what it says (`Says`), its children by the readers and walks handed in, and the levels are one induction. Assumes nothing.
 use Rattle.reply.specs.declared.Refusal.TheVariants.{BadRecord, TooDeep, NotOneType, TypeLength, TypeTooLong}
 use Rattle.reply.specs.Numbers.{refusal_number}
-use Rattle.std.specs.Prelude.{◌≡◌, List, [], ◌∷◌, map, Bool, true, false, not, ◌||◌, ltb, leb, eqb, length, take, drop, get_or}
+use Rattle.std.specs.Prelude.{◌≡◌, List, [], ◌∷◌, map, Bool, true, false, not, ◌||◌, ltb, leb, eqb, length, take, drop, get_or, Some, None, Result, Ok, Err}
 use Rattle.std.proofs.Math.Path.{refl, ap}
 use Rattle.std.proofs.Common.{sym, ap₂, ◌∙◌, add-zero, add-one, arith, drop_of_length-le, drop-cons, get_or-take, get_or-drop, ltb-true, ltb-false, lt-ltb, le-ltb, leb-true, leb-false, eqb-true, ne_eqb}
 use Rattle.std.proofs.Math.Option.{Option, none, some}
@@ -20,22 +20,18 @@ use Rattle.model.specs.Types.{Ty, Tys, either, option, tuple, array, list, enum,
 use Rattle.model.specs.TypeFiles as file
 use Rattle.model.specs.TypeFiles.{TRec, type_record, Reader, made, on_record, widths, is_never, is_bool, is_either, is_option, is_uint, is_tuple, is_array, is_list, is_enum, head, variant_parts, read_types, read_variants, read_children, read_type, read_variant, type_of, trec}
 use Rattle.model.proofs.Laws.Records.{length_cut, cut_at}
-use Rattle.num.specs.declared.Width.TheVariants as bit_widths
 use Rattle.num.specs.Powers.{bound, bound_if, bound_of, bound_log2, width, width_of}
 use Rattle.num.specs.Laws.{bounded}
 use Rattle.types.specs.declared.Head.{Head}
 use Rattle.types.specs.declared.Head.TheVariants.{Missing, Faulty, Never, Boolean, UInt, Either, Opt, Tuple, Array, Listed, Variants, Payload}
 use Rattle.types.specs.declared.Rec.{Rec}
 use Rattle.types.specs.declared.Rec.TheVariants.{Variant}
-use Rattle.types.specs.declared.Walk.{Walk}
-use Rattle.types.specs.declared.Walk.TheVariants.{End, Bad}
-use Rattle.types.specs.declared.TypeAnswer.{TypeAnswer}
-use Rattle.types.specs.declared.TypeAnswer.TheVariants.{Ok, Refused}
 use Rattle.types.specs.Record.{by_width, by_bound, head_of, head_at, calls_for, rec_at}
 use Rattle.types.specs.Walks.{opens, next, many, walk}
 use Rattle.types.specs.Table.{pick_answer, whole, type_answer}
 use Rattle.types.specs.Trees.{end_of, kids, cases, node, payload, tree, treev}
 use Rattle.types.specs.Unique.{kind, count, reach}
+use Rattle.reply.specs.declared.Refusal.{Refusal}
 
 -- THE RECORDS BY THEIR PLACE
 
@@ -95,7 +91,7 @@ says_width : (n : ℕ) → Says (by_width (width_of n)) (when (one_of n widths) 
 unfolding width_of
 says_width n = go (one_of n widths)
   where
-    go : (b : Bool) → Says (by_width (pick b (bit_widths.Of (width n)) bit_widths.Not)) (when b (some (is_uint n))) none
+    go : (b : Bool) → Says (by_width (pick b (Some (width n)) None)) (when b (some (is_uint n))) none
     go true = as_type as_uint
     go false = as_nothing
 
@@ -147,50 +143,50 @@ stands s at = go (ltb at (length s / 4)) refl
 -- WHAT IS READ UP TO A PLACE
 
 -- a walk that ends leaves the reader what stands behind its end
-abbrev pub answer : {A : Type 0} → Walk → A → List TRec → Outcome (A × List TRec)
-answer (End e) a rs = done (a, drop e rs)
-answer (Bad x) a rs = refused (refusal_number x)
+abbrev pub answer : {A : Type 0} → Result ℕ Refusal → A → List TRec → Outcome (A × List TRec)
+answer (Ok e) a rs = done (a, drop e rs)
+answer (Err x) a rs = refused (refusal_number x)
 
-answer_made : {A B : Type 0} (f : A → B) (w : Walk) (a : A) (rs : List TRec) → made f (answer w a rs) ≡ answer w (f a) rs
-answer_made f (End e) a rs = refl
-answer_made f (Bad x) a rs = refl
+answer_made : {A B : Type 0} (f : A → B) (w : Result ℕ Refusal) (a : A) (rs : List TRec) → made f (answer w a rs) ≡ answer w (f a) rs
+answer_made f (Ok e) a rs = refl
+answer_made f (Err x) a rs = refl
 
-answer_next : {A B C : Type 0} (c : A → B → C) (w : Walk) (a : A) (rs : List TRec) (f : Reader B) (k : ℕ → Walk) (b : ℕ → B) → ((e : ℕ) → f (drop e rs) ≡ answer (k e) (b e) rs) → (answer w a rs >>= λ x. made (c x.0) (f x.1)) ≡ answer (next w k) (c a (b (end_of w))) rs
+answer_next : {A B C : Type 0} (c : A → B → C) (w : Result ℕ Refusal) (a : A) (rs : List TRec) (f : Reader B) (k : ℕ → Result ℕ Refusal) (b : ℕ → B) → ((e : ℕ) → f (drop e rs) ≡ answer (k e) (b e) rs) → (answer w a rs >>= λ x. made (c x.0) (f x.1)) ≡ answer (next w k) (c a (b (end_of w))) rs
 unfolding next
-answer_next c (End e) a rs f k b h = ap (made (c a)) (h e) ∙ answer_made (c a) (k e) (b e) rs
-answer_next c (Bad x) a rs f k b h = refl
+answer_next c (Ok e) a rs f k b h = ap (made (c a)) (h e) ∙ answer_made (c a) (k e) (b e) rs
+answer_next c (Err x) a rs f k b h = refl
 
 -- a reader f, and a walk w with its trees t: at each place they tell the same
-abbrev pub Agree : {A : Type 0} → List TRec → Reader A → (ℕ → Walk) → (ℕ → A) → Type 0
+abbrev pub Agree : {A : Type 0} → List TRec → Reader A → (ℕ → Result ℕ Refusal) → (ℕ → A) → Type 0
 Agree rs f w t = (at : ℕ) → f (drop at rs) ≡ answer (w at) (t at) rs
 
 module _ (rs : List TRec) where
-  agree_made : {A B : Type 0} (c : A → B) (f : Reader A) (w : ℕ → Walk) (t : ℕ → A) → Agree rs f w t → Agree rs (λ l. made c (f l)) w (λ e. c (t e))
+  agree_made : {A B : Type 0} (c : A → B) (f : Reader A) (w : ℕ → Result ℕ Refusal) (t : ℕ → A) → Agree rs f w t → Agree rs (λ l. made c (f l)) w (λ e. c (t e))
   agree_made c f w t h at = ap (made c) (h at) ∙ answer_made c (w at) (t at) rs
 
-  agree_next : {A B C : Type 0} (c : A → B → C) (f : Reader A) (w : ℕ → Walk) (t : ℕ → A) → Agree rs f w t → (g : Reader B) (k : ℕ → Walk) (b : ℕ → B) → Agree rs g k b → Agree rs (λ l. f l >>= λ x. made (c x.0) (g x.1)) (λ e. next (w e) k) (λ e. c (t e) (b (end_of (w e))))
+  agree_next : {A B C : Type 0} (c : A → B → C) (f : Reader A) (w : ℕ → Result ℕ Refusal) (t : ℕ → A) → Agree rs f w t → (g : Reader B) (k : ℕ → Result ℕ Refusal) (b : ℕ → B) → Agree rs g k b → Agree rs (λ l. f l >>= λ x. made (c x.0) (g x.1)) (λ e. next (w e) k) (λ e. c (t e) (b (end_of (w e))))
   agree_next c f w t h g k b j at = ap (λ o. o >>= λ x. made (c x.0) (g x.1)) (h at) ∙ answer_next c (w at) (t at) rs g k b j
 
-  agree_one : {A : Type 0} (f : Reader A) (w : ℕ → Walk) (t : ℕ → A) → Agree rs f w t → Agree rs f (many w 1) t
+  agree_one : {A : Type 0} (f : Reader A) (w : ℕ → Result ℕ Refusal) (t : ℕ → A) → Agree rs f w t → Agree rs f (many w 1) t
   unfolding many next
   agree_one f w t h at = h at ∙ ap (λ x. answer x (t at) rs) (sym (go (w at)))
     where
-      go : (x : Walk) → next x (many w 0) ≡ x
-      go (End e) = refl
-      go (Bad x) = refl
+      go : (x : Result ℕ Refusal) → next x (many w 0) ≡ x
+      go (Ok e) = refl
+      go (Err x) = refl
 
-  agree_types : (f : Reader Ty) (w : ℕ → Walk) (t : ℕ → Ty) → Agree rs f w t → (n : ℕ) → Agree rs (read_types f n) (many w n) (kids t w n)
+  agree_types : (f : Reader Ty) (w : ℕ → Result ℕ Refusal) (t : ℕ → Ty) → Agree rs f w t → (n : ℕ) → Agree rs (read_types f n) (many w n) (kids t w n)
   unfolding many kids
   agree_types f w t h zero at = refl
   agree_types f w t h (suc n) at = agree_next cons f w t h (read_types f n) (many w n) (kids t w n) (agree_types f w t h n) at
 
-  agree_variants : (g : Reader Tys) (w : ℕ → Walk) (t : ℕ → Tys) → Agree rs g w t → (n : ℕ) → Agree rs (read_variants g n) (many w (suc n)) (cases t w n)
+  agree_variants : (g : Reader Tys) (w : ℕ → Result ℕ Refusal) (t : ℕ → Tys) → Agree rs g w t → (n : ℕ) → Agree rs (read_variants g n) (many w (suc n)) (cases t w n)
   unfolding many cases
   agree_variants g w t h zero at = agree_made last g (many w 1) t (agree_one g w t h) at
   agree_variants g w t h (suc n) at = agree_next more g w t h (read_variants g n) (many w (suc n)) (cases t w n) (agree_variants g w t h n) at
 
   -- a record's children: f and w false are of types, g and w true of Variants
-  agree_children : (f : Reader Ty) (g : Reader Tys) (w : Bool → ℕ → Walk) (t : ℕ → Ty) (v : ℕ → Tys) → Agree rs f (w false) t → Agree rs g (w true) v → (h : Head) (m : file.Head) → Means h m → Agree rs (read_children f g m) (many (w (kind (calls_for h))) (count (calls_for h))) (node h t (w false) v (w true))
+  agree_children : (f : Reader Ty) (g : Reader Tys) (w : Bool → ℕ → Result ℕ Refusal) (t : ℕ → Ty) (v : ℕ → Tys) → Agree rs f (w false) t → Agree rs g (w true) v → (h : Head) (m : file.Head) → Means h m → Agree rs (read_children f g m) (many (w (kind (calls_for h))) (count (calls_for h))) (node h t (w false) v (w true))
   unfolding many node
   agree_children f g w t v p q h m as_never at = refl
   agree_children f g w t v p q h m as_bool at = refl
@@ -205,7 +201,7 @@ module _ (rs : List TRec) where
 -- ONE RECORD
 
 -- a type's record opens its children where a type belongs, and nothing where a Variant does
-opens_means : (q : Bool → ℕ → Walk) (h : Head) (m : file.Head) → Means h m → (opens false (calls_for h) q ≡ q (kind (calls_for h)) (count (calls_for h))) × (opens true (calls_for h) q ≡ Bad BadRecord)
+opens_means : (q : Bool → ℕ → Result ℕ Refusal) (h : Head) (m : file.Head) → Means h m → (opens false (calls_for h) q ≡ q (kind (calls_for h)) (count (calls_for h))) × (opens true (calls_for h) q ≡ Err BadRecord)
 unfolding opens
 opens_means q h m as_never = (refl, refl)
 opens_means q h m as_bool = (refl, refl)
@@ -218,7 +214,7 @@ opens_means q h m (as_list b) = (refl, refl)
 opens_means q h m as_enum = (refl, refl)
 
 -- where a type belongs: f reads what a record has below it
-module _ (s : List ℕ) (at : ℕ) (q : Bool → ℕ → Walk) (f : file.Head → Reader Ty) (t : Ty) where
+module _ (s : List ℕ) (at : ℕ) (q : Bool → ℕ → Result ℕ Refusal) (f : file.Head → Reader Ty) (t : Ty) where
   abbrev TypeBelow : Head → Type 0
   TypeBelow h = (m : file.Head) → Means h m → f m (drop (at + 1) (rows s)) ≡ answer (q (kind (calls_for h)) (count (calls_for h))) t (rows s)
 
@@ -234,7 +230,7 @@ module _ (s : List ℕ) (at : ℕ) (q : Bool → ℕ → Walk) (f : file.Head �
   type_step h l (there {r} e) k = type_said h (head r) (variant_parts r) e k
 
 -- where a Variant belongs
-module _ (s : List ℕ) (at : ℕ) (q : Bool → ℕ → Walk) (f : ℕ → Reader Tys) (t : Rec → Tys) (k : (n : ℕ) → f n (drop (at + 1) (rows s)) ≡ answer (q false n) (t (Variant n)) (rows s)) where
+module _ (s : List ℕ) (at : ℕ) (q : Bool → ℕ → Result ℕ Refusal) (f : ℕ → Reader Tys) (t : Rec → Tys) (k : (n : ℕ) → f n (drop (at + 1) (rows s)) ≡ answer (q false n) (t (Variant n)) (rows s)) where
   variant_said : (h : Head) (o : Option file.Head) (p : Option ℕ) → Says h o p → (or_refuse bad_record p >>= λ n. f n (drop (at + 1) (rows s))) ≡ answer (opens true (calls_for h) q) (t (calls_for h)) (rows s)
   unfolding opens
   variant_said h o p as_nothing = refl
@@ -253,13 +249,13 @@ mutual
   unfolding read_type walk tree payload rec_at
 
   pub read_type_is : (s : List ℕ) (d : ℕ) → Agree (rows s) (read_type d) (walk d false s) (tree d s)
-  read_type_is s zero at = type_step s at (λ b n. Bad TooDeep) (λ m rs. refused too_deep) (tuple nil) (head_at s at) (drop at (rows s)) (stands s at) (λ m e. refl)
+  read_type_is s zero at = type_step s at (λ b n. Err TooDeep) (λ m rs. refused too_deep) (tuple nil) (head_at s at) (drop at (rows s)) (stands s at) (λ m e. refl)
   read_type_is s (suc d) at =
       type_step s at (λ b n. many (walk d b s) n (at + 1)) (λ m rs. read_children (λ x. read_type d x) (λ x. read_variant d x) m rs) (tree (suc d) s at) (head_at s at) (drop at (rows s)) (stands s at)
       (λ m e. agree_children (rows s) (λ x. read_type d x) (λ x. read_variant d x) (λ b. walk d b s) (λ i. tree d s i) (λ i. treev d s i) (λ i. read_type_is s d i) (λ i. read_variant_is s d i) (head_at s at) m e (at + 1))
 
   pub read_variant_is : (s : List ℕ) (d : ℕ) → Agree (rows s) (read_variant d) (walk d true s) (treev d s)
-  read_variant_is s zero at = variant_step s at (λ b n. Bad TooDeep) (λ n rs. refused too_deep) (λ r. nil) (λ n. refl) (head_at s at) (drop at (rows s)) (stands s at)
+  read_variant_is s zero at = variant_step s at (λ b n. Err TooDeep) (λ n rs. refused too_deep) (λ r. nil) (λ n. refl) (head_at s at) (drop at (rows s)) (stands s at)
   read_variant_is s (suc d) at =
       variant_step s at (λ b n. many (walk d b s) n (at + 1)) (λ n rs. read_types (λ x. read_type d x) n rs) (λ r. payload r (λ i. tree d s i) (walk d false s) (at + 1))
       (λ n. agree_types (rows s) (λ x. read_type d x) (walk d false s) (λ i. tree d s i) (λ i. read_type_is s d i) n (at + 1)) (head_at s at) (drop at (rows s)) (stands s at)
@@ -267,17 +263,17 @@ mutual
 -- THE FILE
 
 -- the answer about a type file, with the type that it says
-abbrev pub outcome_of : TypeAnswer → Ty → Outcome Ty
+abbrev pub outcome_of : Result ℕ Refusal → Ty → Outcome Ty
 outcome_of (Ok n) t = done t
-outcome_of (Refused x) t = refused (refusal_number x)
+outcome_of (Err x) t = refused (refusal_number x)
 
 -- one tree and nothing after it
-whole_is : (s : List ℕ) (t : Ty) (w : Walk) → ((e : ℕ) → w ≡ End e → e ≤ length s / 4) → (answer w t (rows s) >>= all_read not_one_type) ≡ outcome_of (whole (length s / 4) w) t
+whole_is : (s : List ℕ) (t : Ty) (w : Result ℕ Refusal) → ((e : ℕ) → w ≡ Ok e → e ≤ length s / 4) → (answer w t (rows s) >>= all_read not_one_type) ≡ outcome_of (whole (length s / 4) w) t
 unfolding whole
-whole_is s t (Bad x) h = refl
-whole_is s t (End e) h = go (eqb e (length s / 4)) refl
+whole_is s t (Err x) h = refl
+whole_is s t (Ok e) h = go (eqb e (length s / 4)) refl
   where
-    go : (b : Bool) → eqb e (length s / 4) ≡ b → all_read not_one_type (t, drop e (rows s)) ≡ outcome_of (pick_answer b (Ok e) (Refused NotOneType)) t
+    go : (b : Bool) → eqb e (length s / 4) ≡ b → all_read not_one_type (t, drop e (rows s)) ≡ outcome_of (pick_answer b (Ok e) (Err NotOneType)) t
     go true q = let l = eqb-true e (length s / 4) q in rw (rows_end s e (omega arith))
     go false q = let l = h e refl in let n = eqb-false e (length s / 4) q in rw (rows_at s e (omega (arith, n)))
 
@@ -297,11 +293,11 @@ type_of_is s = go (eqb (length s) 0) (eqb (length s % 4) 0) refl
     rest : (read_type deepest (rows s) >>= all_read not_one_type) ≡ outcome_of (whole (length s / 4) (walk 32 false s 0)) (tree 32 s 0)
     rest = ap (λ o. o >>= all_read not_one_type) (read_type_is s 32 0) ∙ whole_is s (tree 32 s 0) (walk 32 false s 0) (reach 32 false s 0)
 
-    long : (c : Bool) → (refuse type_too_long (not c) >> (read_type deepest (rows s) >>= all_read not_one_type)) ≡ outcome_of (pick_answer c (whole (length s / 4) (walk 32 false s 0)) (Refused TypeTooLong)) (tree 32 s 0)
+    long : (c : Bool) → (refuse type_too_long (not c) >> (read_type deepest (rows s) >>= all_read not_one_type)) ≡ outcome_of (pick_answer c (whole (length s / 4) (walk 32 false s 0)) (Err TypeTooLong)) (tree 32 s 0)
     long true = rest
     long false = refl
 
-    go : (a b : Bool) → eqb (length s % 4) 0 ≡ b → (refuse type_length (a || not b) >> (refuse type_too_long (ltb (4 * most_type_records) (length s)) >> (read_type deepest (rows s) >>= all_read not_one_type))) ≡ outcome_of (pick_answer a (Refused TypeLength) (pick_answer b (pick_answer (leb (length s / 4) 1024) (whole (length s / 4) (walk 32 false s 0)) (Refused TypeTooLong)) (Refused TypeLength))) (tree 32 s 0)
+    go : (a b : Bool) → eqb (length s % 4) 0 ≡ b → (refuse type_length (a || not b) >> (refuse type_too_long (ltb (4 * most_type_records) (length s)) >> (read_type deepest (rows s) >>= all_read not_one_type))) ≡ outcome_of (pick_answer a (Err TypeLength) (pick_answer b (pick_answer (leb (length s / 4) 1024) (whole (length s / 4) (walk 32 false s 0)) (Err TypeTooLong)) (Err TypeLength))) (tree 32 s 0)
     go true b e = refl
     go false false e = refl
     go false true e = rw (row_of_records (length s) (eqb-true (length s % 4) 0 e)) (long (leb (length s / 4) 1024))

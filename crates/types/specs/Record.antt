@@ -1,25 +1,23 @@
 -- One record of a type file: what it says, and what it calls for.
-use Rattle.std.specs.Prelude.{List, ℕ, ◌+◌, ◌*◌, ◌/◌, length, get_or, ltb, eqb}
+use Rattle.std.specs.Prelude.{List, ℕ, ◌+◌, ◌*◌, ◌/◌, length, get_or, ltb, eqb, Option, Some, None}
 use Rattle.model.specs.Options.{pick}
-use Rattle.num.specs.declared.Bound.{Bound}
-use Rattle.num.specs.declared.Bound.TheVariants as bounds
-use Rattle.num.specs.declared.Width.{Width}
-use Rattle.num.specs.declared.Width.TheVariants as bit_widths
 use Rattle.num.specs.Powers.{bound_of, width_of}
 use Rattle.types.specs.declared.Head.{Head}
 use Rattle.types.specs.declared.Head.TheVariants.{Missing, Faulty, Never, Boolean, UInt, Either, Opt, Tuple, Array, Listed, Variants, Payload}
 use Rattle.types.specs.declared.Rec.{Rec}
 use Rattle.types.specs.declared.Rec.TheVariants.{Gone, Wrong, Types, Enum, Variant}
+use Rattle.num.specs.declared.Pow2Usize.{Pow2Usize}
+use Rattle.num.specs.declared.NonZeroPow2Usize.{NonZeroPow2Usize}
 
 -- a UInt of the width, if it is one
-abbrev pub by_width : Width → Head
-by_width (bit_widths.Of w) = UInt w
-by_width bit_widths.Not = Faulty
+abbrev pub by_width : Option Pow2Usize → Head
+by_width (Some w) = UInt w
+by_width None = Faulty
 
 -- a List with the bound, if it is one
-abbrev pub by_bound : Bound → Head
-by_bound (bounds.Of b) = Listed b
-by_bound bounds.Not = Faulty
+abbrev pub by_bound : Option NonZeroPow2Usize → Head
+by_bound (Some b) = Listed b
+by_bound None = Faulty
 
 -- what a record says, by its kind, byte 1 and n
 unfoldable pub head_of : ℕ → ℕ → ℕ → Head

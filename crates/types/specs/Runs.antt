@@ -1,13 +1,12 @@
 -- Subtrees that stand one after the other, of any levels: what a loop that counts open children goes by. Assumes nothing.
-use Rattle.std.specs.Prelude.{◌≡◌, List, Bool, ℕ, zero, suc, ◌+◌, ◌<◌, ◌≤◌}
+use Rattle.std.specs.Prelude.{◌≡◌, List, Bool, ℕ, zero, suc, ◌+◌, ◌<◌, ◌≤◌, Result, Ok}
 use Rattle.std.proofs.Common.{arith}
-use Rattle.types.specs.declared.Walk.{Walk}
-use Rattle.types.specs.declared.Walk.TheVariants.{End}
 use Rattle.types.specs.Record.{rec_at}
 use Rattle.types.specs.Walks.{many, walk}
 use Rattle.types.specs.Unique.{bad_end, kind, count, opened, nexts}
+use Rattle.reply.specs.declared.Refusal.{Refusal}
 
-many_up : (f : ℕ → Walk) → ((a x : ℕ) → f a ≡ End x → a < x) → (n a e : ℕ) → many f n a ≡ End e → a + n ≤ e
+many_up : (f : ℕ → Result ℕ Refusal) → ((a x : ℕ) → f a ≡ Ok x → a < x) → (n a e : ℕ) → many f n a ≡ Ok e → a + n ≤ e
 unfolding many
 many_up f h zero a e p = let z : a ≡ e = cc in omega arith
 many_up f h (suc n) a e p =
@@ -17,7 +16,7 @@ many_up f h (suc n) a e p =
     omega arith
 
 -- a subtree has its own record at least
-pub up : (d : ℕ) (v : Bool) (s : List ℕ) (i m : ℕ) → walk d v s i ≡ End m → i < m
+pub up : (d : ℕ) (v : Bool) (s : List ℕ) (i m : ℕ) → walk d v s i ≡ Ok m → i < m
 unfolding walk
 up zero v s i m p = bad_end (opened v (rec_at s i) _ m p)
 up (suc d) v s i m p =

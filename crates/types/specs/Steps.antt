@@ -1,12 +1,10 @@
 -- What a walk over an accepted file may use: from a record to its children, and from a child to the next one. Assumes nothing.
-use Rattle.std.specs.Prelude.{◌≡◌, refl, List, Bool, true, false, length, get_or}
+use Rattle.std.specs.Prelude.{◌≡◌, refl, List, Bool, true, false, length, get_or, Result, Ok}
 use Rattle.std.proofs.Common.{ap, ◌∙◌, sub-one}
 use Prim.Native.Nat.{ℕ, zero, suc, ◌+◌, ◌-◌, ◌<◌, ◌/◌}
 use native.Mathlib.Omega.{arith}
 use Rattle.types.specs.declared.Head.{Head}
 use Rattle.types.specs.declared.Rec.{Rec}
-use Rattle.types.specs.declared.Walk.{Walk}
-use Rattle.types.specs.declared.Walk.TheVariants.{End}
 use Rattle.types.specs.Record.{head_at, calls_for, rec_at}
 use Rattle.types.specs.Walks.{many, walk}
 use Rattle.types.specs.Table.{Ends}
@@ -14,16 +12,17 @@ use Rattle.types.specs.Trees.{end_of, kids, cases, node, payload, tree, treev}
 use Rattle.model.specs.Types.{Ty, Tys, cons, size}
 use Rattle.model.specs.Types as model
 use Rattle.types.specs.Unique.{bad_end, kind, count, opened, nexts, inside}
+use Rattle.reply.specs.declared.Refusal.{Refusal}
 
 -- a whole subtree starts here, with d levels from here on
 pub record Starts (d : ℕ) (v : Bool) (s : List ℕ) (at : ℕ) : Type 0 where
   pub end : ℕ
-  pub walks : walk d v s at ≡ End end
+  pub walks : walk d v s at ≡ Ok end
 
 -- n of them in a row
 pub record Row (d : ℕ) (v : Bool) (s : List ℕ) (n at : ℕ) : Type 0 where
   pub end : ℕ
-  pub walks : many (walk d v s) n at ≡ End end
+  pub walks : many (walk d v s) n at ≡ Ok end
 
 module _ (v : Bool) (s : List ℕ) (at : ℕ) where
   pub levels : (d : ℕ) → Starts d v s at → d ≡ 0 → ⊥
@@ -111,17 +110,17 @@ module _ {d : ℕ} {v : Bool} {s E : List ℕ} {at : ℕ} where
   given_rest {n} h g = record { row = rw (given_end (given_first h g)) (row_rest v s at n h g.row); ends = g.ends }
 
 -- as many children as were asked for
-pub size_kids : (g : ℕ → Ty) (f : ℕ → Walk) (n at : ℕ) → size (kids g f n at) ≡ n
+pub size_kids : (g : ℕ → Ty) (f : ℕ → Result ℕ Refusal) (n at : ℕ) → size (kids g f n at) ≡ n
 unfolding kids
 size_kids g f zero at = refl
 size_kids g f (suc n) at = ap suc (size_kids g f n (end_of (f at)))
 
-pub count_cases : (g : ℕ → Tys) (f : ℕ → Walk) (n at : ℕ) → model.count (cases g f n at) ≡ suc n
+pub count_cases : (g : ℕ → Tys) (f : ℕ → Result ℕ Refusal) (n at : ℕ) → model.count (cases g f n at) ≡ suc n
 unfolding cases
 count_cases g f zero at = refl
 count_cases g f (suc n) at = ap suc (count_cases g f n (end_of (f at)))
 
-pub kids_more : (g : ℕ → Ty) (f : ℕ → Walk) (n at : ℕ) → (n ≡ 0 → ⊥) → kids g f n at ≡ cons (g at) (kids g f (n - 1) (end_of (f at)))
+pub kids_more : (g : ℕ → Ty) (f : ℕ → Result ℕ Refusal) (n at : ℕ) → (n ≡ 0 → ⊥) → kids g f n at ≡ cons (g at) (kids g f (n - 1) (end_of (f at)))
 unfolding kids
 kids_more g f zero at h = absurd (h refl)
 kids_more g f (suc n) at h = rw sub-one

@@ -1,34 +1,33 @@
 -- The type that a type file writes down, as a tree: which tree stands at a place.
-use Rattle.std.specs.Prelude.{ℕ, zero, suc, ◌+◌, ◌-◌, List, true, false}
+use Rattle.std.specs.Prelude.{ℕ, zero, suc, ◌+◌, ◌-◌, List, true, false, Result, Ok, Err}
 use Rattle.types.specs.declared.Head.{Head}
 use Rattle.types.specs.declared.Head.TheVariants.{Missing, Faulty, Never, Boolean, UInt, Either, Opt, Tuple, Array, Listed, Payload}
 use Rattle.types.specs.declared.Head.TheVariants as head
 use Rattle.types.specs.declared.Rec.{Rec}
 use Rattle.types.specs.declared.Rec.TheVariants.{Gone, Wrong, Types, Enum, Variant}
-use Rattle.types.specs.declared.Walk.{Walk}
-use Rattle.types.specs.declared.Walk.TheVariants.{End, Bad}
 use Rattle.types.specs.Record.{head_at, rec_at}
 use Rattle.types.specs.Walks.{walk}
 use Rattle.num.specs.Powers.{bound_log2}
 use Rattle.model.specs.Types.{Ty, Tys, Variants, never, bool, uint, either, option, tuple, array, list, enum, nil, cons, last, more}
+use Rattle.reply.specs.declared.Refusal.{Refusal}
 
 -- where a walk that is not refused ends
-abbrev pub end_of : Walk → ℕ
-end_of (End e) = e
-end_of (Bad x) = 0
+abbrev pub end_of : Result ℕ Refusal → ℕ
+end_of (Ok e) = e
+end_of (Err x) = 0
 
 -- n types in a row: g gives the tree at a place, f its end
-unfoldable pub kids : (ℕ → Ty) → (ℕ → Walk) → ℕ → ℕ → Tys
+unfoldable pub kids : (ℕ → Ty) → (ℕ → Result ℕ Refusal) → ℕ → ℕ → Tys
 kids g f zero at = nil
 kids g f (suc n) at = cons (g at) (kids g f n (end_of (f at)))
 
 -- a Variant, and n more after it
-unfoldable pub cases : (ℕ → Tys) → (ℕ → Walk) → ℕ → ℕ → Variants
+unfoldable pub cases : (ℕ → Tys) → (ℕ → Result ℕ Refusal) → ℕ → ℕ → Variants
 cases g f zero at = last (g at)
 cases g f (suc n) at = more (g at) (cases g f n (end_of (f at)))
 
 -- a node (the empty tuple where there is none), over the trees g and ends f of types below it, and h and k of Variants
-unfoldable pub node : Head → (ℕ → Ty) → (ℕ → Walk) → (ℕ → Tys) → (ℕ → Walk) → ℕ → Ty
+unfoldable pub node : Head → (ℕ → Ty) → (ℕ → Result ℕ Refusal) → (ℕ → Tys) → (ℕ → Result ℕ Refusal) → ℕ → Ty
 node Missing g f h k at = tuple nil
 node Faulty g f h k at = tuple nil
 node Never g f h k at = never
@@ -42,7 +41,7 @@ node (Listed b) g f h k at = list (g at) (bound_log2 b.0 - 1)
 node (head.Variants n) g f h k at = enum (cases h k (n - 1) at)
 node (Payload n) g f h k at = tuple nil
 
-unfoldable pub payload : Rec → (ℕ → Ty) → (ℕ → Walk) → ℕ → Tys
+unfoldable pub payload : Rec → (ℕ → Ty) → (ℕ → Result ℕ Refusal) → ℕ → Tys
 payload Gone g f at = nil
 payload Wrong g f at = nil
 payload (Types n) g f at = nil

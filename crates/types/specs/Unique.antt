@@ -1,17 +1,15 @@
 -- A subtree has one end, however many levels are left: so the table of an accepted file holds it. Assumes nothing.
 use Rattle.reply.specs.declared.Refusal.{Refusal}
-use Rattle.std.specs.Prelude.{◌≡◌, refl, List, Bool, true, false, ℕ, zero, suc, ◌+◌, ◌<◌, ◌≤◌, ◌/◌, length, get_or}
+use Rattle.std.specs.Prelude.{◌≡◌, refl, List, Bool, true, false, ℕ, zero, suc, ◌+◌, ◌<◌, ◌≤◌, ◌/◌, length, get_or, Result, Ok, Err}
 use Rattle.std.proofs.Common.{arith}
 use Rattle.types.specs.declared.Rec.{Rec}
 use Rattle.types.specs.declared.Rec.TheVariants.{Gone, Wrong, Types, Enum, Variant}
-use Rattle.types.specs.declared.Walk.{Walk}
-use Rattle.types.specs.declared.Walk.TheVariants.{End, Bad}
 use Rattle.types.specs.Record.{rec_at}
 use Rattle.types.specs.Walks.{opens, next, many, walk}
 use Rattle.types.specs.Table.{Filled, Ends}
 use Rattle.types.specs.Facts.{there, There}
 
-pub bad_end : {A : Type 0} {x : Refusal} {e : ℕ} → Bad x ≡ End e → A
+pub bad_end : {A : Type 0} {x : Refusal} {e : ℕ} → Err x ≡ Ok e → A
 bad_end p = let z : ◌≡◌ {A = ℕ} 0 1 = cc in absurd (omega arith)
 
 abbrev pub kind : Rec → Bool
@@ -28,7 +26,7 @@ count (Types n) = n
 count (Enum n) = n
 count (Variant n) = n
 
-pub opened : (v : Bool) (r : Rec) (k : Bool → ℕ → Walk) (e : ℕ) → opens v r k ≡ End e → k (kind r) (count r) ≡ End e
+pub opened : (v : Bool) (r : Rec) (k : Bool → ℕ → Result ℕ Refusal) (e : ℕ) → opens v r k ≡ Ok e → k (kind r) (count r) ≡ Ok e
 unfolding opens
 opened v Gone k e p = bad_end p
 opened v Wrong k e p = bad_end p
@@ -39,7 +37,7 @@ opened true (Types n) k e p = bad_end p
 opened true (Enum n) k e p = bad_end p
 opened true (Variant n) k e p = p
 
-opened_there : (v : Bool) (r : Rec) (k : Bool → ℕ → Walk) (e : ℕ) → opens v r k ≡ End e → There r
+opened_there : (v : Bool) (r : Rec) (k : Bool → ℕ → Result ℕ Refusal) (e : ℕ) → opens v r k ≡ Ok e → There r
 unfolding opens
 opened_there v Gone k e p = bad_end p
 opened_there v Wrong k e p = tt
@@ -48,12 +46,12 @@ opened_there v (Enum n) k e p = tt
 opened_there v (Variant n) k e p = tt
 
 -- the first part's end
-pub nexts : (w : Walk) (k : ℕ → Walk) (e : ℕ) → next w k ≡ End e → (m : ℕ) × (w ≡ End m) × (k m ≡ End e)
+pub nexts : (w : Result ℕ Refusal) (k : ℕ → Result ℕ Refusal) (e : ℕ) → next w k ≡ Ok e → (m : ℕ) × (w ≡ Ok m) × (k m ≡ Ok e)
 unfolding next
-nexts (End m) k e p = (m, refl, p)
-nexts (Bad x) k e p = bad_end p
+nexts (Ok m) k e p = (m, refl, p)
+nexts (Err x) k e p = bad_end p
 
-many_one : (f g : ℕ → Walk) → ((a x y : ℕ) → f a ≡ End x → g a ≡ End y → x ≡ y) → (n a x y : ℕ) → many f n a ≡ End x → many g n a ≡ End y → x ≡ y
+many_one : (f g : ℕ → Result ℕ Refusal) → ((a x y : ℕ) → f a ≡ Ok x → g a ≡ Ok y → x ≡ y) → (n a x y : ℕ) → many f n a ≡ Ok x → many g n a ≡ Ok y → x ≡ y
 unfolding many
 many_one f g h zero a x y p q = cc
 many_one f g h (suc n) a x y p q =
@@ -61,13 +59,13 @@ many_one f g h (suc n) a x y p q =
     let (m, ql, qr) = nexts (g a) (many g n) y q in
     many_one f g h n l x y pr (rw (← h a l m pl ql) at qr)
 
-pub one_end : (d c : ℕ) (v w : Bool) (s : List ℕ) (i x y : ℕ) → walk d v s i ≡ End x → walk c w s i ≡ End y → x ≡ y
+pub one_end : (d c : ℕ) (v w : Bool) (s : List ℕ) (i x y : ℕ) → walk d v s i ≡ Ok x → walk c w s i ≡ Ok y → x ≡ y
 unfolding walk
 one_end zero c v w s i x y p q = bad_end (opened v (rec_at s i) _ x p)
 one_end (suc d) zero v w s i x y p q = bad_end (opened w (rec_at s i) _ y q)
 one_end (suc d) (suc c) v w s i x y p q = many_one _ _ (λ a. one_end d c (kind (rec_at s i)) (kind (rec_at s i)) s a) (count (rec_at s i)) (i + 1) x y (opened v (rec_at s i) _ x p) (opened w (rec_at s i) _ y q)
 
-pub inside : (d : ℕ) (v : Bool) (s : List ℕ) (i x : ℕ) → walk d v s i ≡ End x → i < length s / 4
+pub inside : (d : ℕ) (v : Bool) (s : List ℕ) (i x : ℕ) → walk d v s i ≡ Ok x → i < length s / 4
 unfolding walk
 inside zero v s i x p = there s i (rec_at s i) (rec_at s i) refl refl (opened_there v (rec_at s i) _ x p)
 inside (suc d) v s i x p = there s i (rec_at s i) (rec_at s i) refl refl (opened_there v (rec_at s i) _ x p)
@@ -81,7 +79,7 @@ all_ends s E E' e f z m = record {
       one_end h.levels d h.variant v s i (get_or E' i 0) x h.ends p;
 }
 
-many_reach : (f : ℕ → Walk) (m : ℕ) → ((a x : ℕ) → f a ≡ End x → x ≤ m) → (n a e : ℕ) → a ≤ m → many f n a ≡ End e → e ≤ m
+many_reach : (f : ℕ → Result ℕ Refusal) (m : ℕ) → ((a x : ℕ) → f a ≡ Ok x → x ≤ m) → (n a e : ℕ) → a ≤ m → many f n a ≡ Ok e → e ≤ m
 unfolding many
 many_reach f m h zero a e l p = let z : a ≡ e = cc in omega arith
 many_reach f m h (suc n) a e l p =
@@ -89,7 +87,7 @@ many_reach f m h (suc n) a e l p =
     many_reach f m h n b e (h a b q) r
 
 -- no walk goes past the file
-pub reach : (d : ℕ) (v : Bool) (s : List ℕ) (i e : ℕ) → walk d v s i ≡ End e → e ≤ length s / 4
+pub reach : (d : ℕ) (v : Bool) (s : List ℕ) (i e : ℕ) → walk d v s i ≡ Ok e → e ≤ length s / 4
 unfolding walk
 reach zero v s i e p = bad_end (opened v (rec_at s i) _ e p)
 reach (suc d) v s i e p =

@@ -6,14 +6,20 @@ ghost use Rattle.std.specs.Prelude.{◌≡◌, true, false, ◌≤◌, ◌<◌, 
 ghost use Rattle.num.specs.Powers.{bound_of, width_of};
 ghost use Rattle.types.specs.Record.{by_width, by_bound, head_of, head_at, calls_for, rec_at};
 ghost use Rattle.types.specs.Heads.{Fair};
-ghost use Rattle.types.specs.Walks.{walk, many};
-ghost use Rattle.types.specs.Table.{Walked, marked, Checked};
+ghost use Rattle.types.specs.Walks.{children_of, walk};
+ghost use Rattle.types.specs.Table.{Walked, Checked};
+ghost use Rattle.types.specs.Entries.{ends, sizes, widths};
 
-use num::{Bound, NonZeroPow2Usize, Pow2Usize, Width};
+pub use entry::Entry;
+use num::{NonZeroPow2Usize, Pow2Usize};
+pub use places::Table;
 use reply::Refusal;
 
+mod entry;
+mod places;
+
 // What a record says.
-#[derive(Clone, Copy)]
+#[derive(Clone, Copy, PartialEq, Eq, Debug)]
 pub enum Head {
     Missing,
     Faulty,
@@ -30,7 +36,7 @@ pub enum Head {
 }
 
 // What a record calls for.
-#[derive(Clone, Copy)]
+#[derive(Clone, Copy, PartialEq, Eq, Debug)]
 pub enum Rec {
     Gone,
     Wrong,
@@ -39,81 +45,52 @@ pub enum Rec {
     Variant(usize),
 }
 
-// Where a subtree ends, or the fault that comes first in it.
-#[derive(Clone, Copy)]
-pub enum Walk {
-    End(usize),
-    Bad(Refusal),
-}
-
-// How many records a type file has, or the number that refuses it.
-#[derive(Clone, Copy)]
-pub enum TypeAnswer {
-    Ok(usize),
-    Refused(Refusal),
-}
-
 // A UInt of n bits, `Faulty` where that is no width.
 fn uint_head(n: usize) -> Head
     ensures { result ≡ by_width (width_of n) }
 {
-    match Pow2Usize::new(n) {
-        Width::Of(w) => Head::UInt(w),
-        Width::Not => Head::Faulty,
-    }
+    Pow2Usize::new(n).map_or(Head::Faulty, Head::UInt)
 }
 
 // A List with the bound n, `Faulty` where that is no bound.
 fn list_head(n: usize) -> Head
     ensures { result ≡ by_bound (bound_of n) }
 {
-    match NonZeroPow2Usize::new(n) {
-        Bound::Of(b) => Head::Listed(b),
-        Bound::Not => Head::Faulty,
-    }
+    NonZeroPow2Usize::new(n).map_or(Head::Faulty, Head::Listed)
 }
 
 // What a record of this kind, second byte and number says.
+#[tactic(auto, unfolding(crate::specs::Record::head_of))]
 fn head_of(kind: u8, zero: u8, n: usize) -> Head
     ensures { result ≡ head_of kind zero n }
 {
     if zero != 0 {
         return Head::Faulty;
     }
-    match kind {
-        0 => if n == 0 { Head::Never } else { Head::Faulty },
-        1 => if n == 0 { Head::Boolean } else { Head::Faulty },
-        2 => uint_head(n),
-        3 => if n == 0 { Head::Either } else { Head::Faulty },
-        4 => if n == 0 { Head::Opt } else { Head::Faulty },
-        5 => Head::Tuple(n),
-        6 => Head::Array(n),
-        7 => list_head(n),
-        8 => if n == 0 {
-            Head::Faulty
-        } else {
-            Head::Variants(n)
-        },
-        9 => Head::Payload(n),
+    match (kind, n) {
+        (0, 0) => Head::Never,
+        (1, 0) => Head::Boolean,
+        (2, _) => uint_head(n),
+        (3, 0) => Head::Either,
+        (4, 0) => Head::Opt,
+        (5, _) => Head::Tuple(n),
+        (6, _) => Head::Array(n),
+        (7, _) => list_head(n),
+        (8, 1..) => Head::Variants(n),
+        (9, _) => Head::Payload(n),
         _ => Head::Faulty,
     }
 }
 
-// A byte as a number.
-fn wide(x: u8) -> usize
-    ensures { (result ≡ x) × (result < 256) }
-{
-    x as usize
-}
-
 // The record at place `at` of a file of whole records.
+#[tactic(auto, unfolding(crate::specs::Record::head_at))]
 pub fn head_at(ty: &[u8], at: usize) -> Head
     ensures { (result ≡ head_at ty.now at) × Fair result }
 {
     if at < ty.len() / 4 {
         let b = at * 4;
-        let n = wide(ty[b + 2]) * 256 + wide(ty[b + 3]);
-        head_of(ty[b], ty[b + 1], n)
+        let n = u16::from_be_bytes([ty[b + 2], ty[b + 3]]);
+        head_of(ty[b], ty[b + 1], usize::from(n))
     } else {
         Head::Missing
     }
@@ -126,155 +103,77 @@ fn calls_for(h: Head) -> Rec
     match h {
         Head::Missing => Rec::Gone,
         Head::Faulty => Rec::Wrong,
-        Head::Never => Rec::Types(0),
-        Head::Boolean => Rec::Types(0),
-        Head::UInt(_) => Rec::Types(0),
+        Head::Never | Head::Boolean | Head::UInt(_) => Rec::Types(0),
         Head::Either => Rec::Types(2),
-        Head::Opt => Rec::Types(1),
+        Head::Opt | Head::Array(_) | Head::Listed(_) => Rec::Types(1),
         Head::Tuple(n) => Rec::Types(n),
-        Head::Array(_) => Rec::Types(1),
-        Head::Listed(_) => Rec::Types(1),
         Head::Variants(n) => Rec::Enum(n),
         Head::Payload(n) => Rec::Variant(n),
     }
 }
 
 // What the record at place `at` calls for.
+#[tactic(auto, unfolding(crate::specs::Record::rec_at))]
 pub fn rec_at(ty: &[u8], at: usize) -> Rec
     ensures { result ≡ rec_at ty.now at }
 {
     calls_for(head_at(ty, at))
 }
 
-// The end of the subtree at place `at` goes into the column of ends.
-pub fn mark(ends: &mut [usize], at: usize, w: Walk) -> Walk
-    requires { at < length ends.old }
-    ensures { (result ≡ w) × (ends.new ≡ marked w at ends.old) }
+// What a record calls for where a type belongs, or where `is_variant` a Variant: whether Variants, and how many.
+fn children(r: Rec, is_variant: bool) -> Result<(bool, usize), Refusal>
+    ensures { result ≡ children_of is_variant r }
 {
-    match w {
-        Walk::End(e) => {
-            ends[at] = e;
-            Walk::End(e)
-        }
-        Walk::Bad(x) => Walk::Bad(x),
+    match (is_variant, r) {
+        (_, Rec::Gone) => Err(Refusal::NotOneType),
+        (false, Rec::Types(n)) => Ok((false, n)),
+        (false, Rec::Enum(n)) => Ok((true, n)),
+        (true, Rec::Variant(n)) => Ok((false, n)),
+        _ => Err(Refusal::BadRecord),
     }
 }
 
-// The type at place `at`, with `depth` levels left.
-#[cycle(types_variants_walk_type_walk_variant)]
-fn walk_type(ty: &[u8], ends: &mut [usize], at: usize, depth: usize) -> Walk
-    requires { length ty.now / 4 ≤ length ends.old }
-    ensures { Walked (walk depth false ty.now at) ty.now at result ends.old ends.new }
+// The type at place `at`, or where `is_variant` the Variant, with `depth` levels left: where its subtree ends.
+fn walk(
+    ty: &[u8],
+    entries: &mut [Entry],
+    at: usize,
+    depth: usize,
+    is_variant: bool,
+) -> Result<usize, Refusal>
+    requires { length ty.now / 4 ≤ length entries.old }
+    ensures walked { Walked (walk depth is_variant ty.now at) ty.now at result (ends entries.old) (ends entries.new) }
+    ensures kept { (sizes entries.new ≡ sizes entries.old) × (widths entries.new ≡ widths entries.old) }
 {
-    match rec_at(ty, at) {
-        Rec::Gone => Walk::Bad(Refusal::NotOneType),
-        Rec::Wrong => Walk::Bad(Refusal::BadRecord),
-        Rec::Types(n) => {
-            if depth == 0 {
-                Walk::Bad(Refusal::TooDeep)
-            } else {
-                let w = types(ty, ends, at + 1, depth - 1, n);
-                mark(ends, at, w)
-            }
-        }
-        Rec::Enum(n) => {
-            if depth == 0 {
-                Walk::Bad(Refusal::TooDeep)
-            } else {
-                let w = variants(ty, ends, at + 1, depth - 1, n);
-                mark(ends, at, w)
-            }
-        }
-        Rec::Variant(_) => Walk::Bad(Refusal::BadRecord),
+    let (are_variants, n) = children(rec_at(ty, at), is_variant)?;
+    if depth == 0 {
+        return Err(Refusal::TooDeep);
     }
-}
-
-// The Variant at place `at`, with `depth` levels left.
-#[cycle(types_variants_walk_type_walk_variant)]
-fn walk_variant(ty: &[u8], ends: &mut [usize], at: usize, depth: usize) -> Walk
-    requires { length ty.now / 4 ≤ length ends.old }
-    ensures { Walked (walk depth true ty.now at) ty.now at result ends.old ends.new }
-{
-    match rec_at(ty, at) {
-        Rec::Gone => Walk::Bad(Refusal::NotOneType),
-        Rec::Wrong => Walk::Bad(Refusal::BadRecord),
-        Rec::Types(_) => Walk::Bad(Refusal::BadRecord),
-        Rec::Enum(_) => Walk::Bad(Refusal::BadRecord),
-        Rec::Variant(n) => {
-            if depth == 0 {
-                Walk::Bad(Refusal::TooDeep)
-            } else {
-                let w = types(ty, ends, at + 1, depth - 1, n);
-                mark(ends, at, w)
-            }
-        }
+    let mut end = at + 1;
+    for _ in 0..n {
+        end = walk(ty, entries, end, depth - 1, are_variants)?;
     }
-}
-
-// n types from place `at`.
-#[cycle(types_variants_walk_type_walk_variant)]
-fn types(ty: &[u8], ends: &mut [usize], at: usize, depth: usize, n: usize) -> Walk
-    requires { length ty.now / 4 ≤ length ends.old }
-    ensures { Walked (many (walk depth false ty.now) n at) ty.now at result ends.old ends.new }
-{
-    let mut p = at;
-    let mut left = n;
-    while 0 < left {
-        match walk_type(ty, ends, p, depth) {
-            Walk::End(e) => {
-                p = e;
-                left -= 1;
-            }
-            Walk::Bad(x) => return Walk::Bad(x),
-        }
-    }
-    Walk::End(p)
-}
-
-// n Variants from place `at`.
-#[cycle(types_variants_walk_type_walk_variant)]
-fn variants(ty: &[u8], ends: &mut [usize], at: usize, depth: usize, n: usize) -> Walk
-    requires { length ty.now / 4 ≤ length ends.old }
-    ensures { Walked (many (walk depth true ty.now) n at) ty.now at result ends.old ends.new }
-{
-    let mut p = at;
-    let mut left = n;
-    while 0 < left {
-        match walk_variant(ty, ends, p, depth) {
-            Walk::End(e) => {
-                p = e;
-                left -= 1;
-            }
-            Walk::Bad(x) => return Walk::Bad(x),
-        }
-    }
-    Walk::End(p)
+    entries[at].end = end;
+    Ok(end)
 }
 
 // Rows 1 to 5 of a type file, and where each record's subtree ends.
-pub fn check_type(ty: &[u8], ends: &mut [usize]) -> TypeAnswer
-    requires { 1024 ≤ length ends.old }
-    ensures { Checked ty.now result ends.new }
+#[tactic(auto, unfolding(crate::specs::Table::type_answer))]
+pub fn check_type(ty: &[u8], entries: &mut [Entry]) -> Result<usize, Refusal>
+    requires { 1024 ≤ length entries.old }
+    ensures checked { Checked ty.now result (ends entries.new) }
+    ensures kept { (sizes entries.new ≡ sizes entries.old) × (widths entries.new ≡ widths entries.old) }
 {
     let n = ty.len();
-    if n == 0 {
-        return TypeAnswer::Refused(Refusal::TypeLength);
-    }
-    if n % 4 != 0 {
-        return TypeAnswer::Refused(Refusal::TypeLength);
+    if n == 0 || n % 4 != 0 {
+        return Err(Refusal::TypeLength);
     }
     let records = n / 4;
     if records > 1024 {
-        return TypeAnswer::Refused(Refusal::TypeTooLong);
+        return Err(Refusal::TypeTooLong);
     }
-    match walk_type(ty, ends, 0, 32) {
-        Walk::End(e) => {
-            if e == records {
-                TypeAnswer::Ok(e)
-            } else {
-                TypeAnswer::Refused(Refusal::NotOneType)
-            }
-        }
-        Walk::Bad(x) => TypeAnswer::Refused(x),
+    if walk(ty, entries, 0, 32, false)? != records {
+        return Err(Refusal::NotOneType);
     }
+    Ok(records)
 }

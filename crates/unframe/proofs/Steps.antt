@@ -136,9 +136,9 @@ pub record Rowing (k : Parts) (d : ℕ) (s E : List ℕ) (n p : ℕ) (fr : List 
   pub room : length (written (done ++ others)) ≤ length before
   pub wrote : Wrote (written done) before out len
 
-pub rowing_start : {k : Parts} {d : ℕ} {s E : List ℕ} {n p : ℕ} (fr : List ℕ) (bit : ℕ) {out : List ℕ} → GivenParts k d s E n p → Inside fr bit (row_width k d s n p) → Ready (row k d s n p fr bit) out → Rowing k d s E n p fr bit out p bit 0 n out
+pub rowing_start : {k : Parts} {d : ℕ} {s E : List ℕ} {n p : ℕ} (fr : List ℕ) (bit : ℕ) {out : List ℕ} {left : ℕ} → left ≡ n → GivenParts k d s E n p → Inside fr bit (row_width k d s n p) → Ready (row k d s n p fr bit) out → Rowing k d s E n p fr bit out p bit 0 left out
 unfolding written
-rowing_start fr bit {out} g i r = record { given = g; inside = i; done = []; others = r.recs; there = r.there; all = r.there; room = r.room; wrote = wrote_none out }
+rowing_start fr bit {out} e g i r = rw e (record { given = g; inside = i; done = []; others = r.recs; there = r.there; all = r.there; room = r.room; wrote = wrote_none out })
 
 module _ {k : Parts} {d : ℕ} {s E : List ℕ} {n p : ℕ} {fr : List ℕ} {bit : ℕ} {before : List ℕ} {place here len left : ℕ} {out : List ℕ} (r : Rowing k d s E n p fr bit before place here len left out) where
   pub rowing_length : length out ≡ length before
@@ -190,7 +190,7 @@ module _ {k : Parts} {d : ℕ} {s E : List ℕ} {n p : ℕ} {fr : List ℕ} {bit
       pub rowing_small : m + len ≤ length before
       rowing_small = both_small r.done first_of.0 before two_room r.wrote wrote_first
 
-      pub rowing_next : (next there : ℕ) → next ≡ after k d s place → there ≡ here + width (structural.standing d s place) → Rowing k d s E n p fr bit before next there (m + len) (left - 1) (back len out q)
+      pub rowing_next : (next there : ℕ) → next ≡ after k d s place → there ≡ here + width (structural.standing d s place) → Rowing k d s E n p fr bit before next there (len + m) (left - 1) (back len out q)
       rowing_next next there e f =
           let w = row_wide k d s left place z in
           let (a, b) = r.inside in
@@ -202,7 +202,7 @@ module _ {k : Parts} {d : ℕ} {s E : List ℕ} {n p : ℕ} {fr : List ℕ} {bit
             there = others_of.1;
             all = r.all ∙ ap some (sym split);
             room = split_room;
-            wrote = both_done r.done first_of.0 before two_room r.wrote wrote_first;
+            wrote = let c : len + m ≡ m + len = omega arith in rw c (both_done r.done first_of.0 before two_room r.wrote wrote_first);
           })
 
 -- AN INTEGER
@@ -242,6 +242,9 @@ pub placed_numbered_as : {o u : Option (ℕ × List Rec)} {before after : List �
 placed_numbered_as e v = record { recs = v.recs; there = e ∙ v.there; wrote = v.wrote }
 
 -- with the bound 2: its one element, or nothing
+pub two_wide : {b : NonZeroPow2Usize} {d : ℕ} {s : List ℕ} {p : ℕ} → Two b d s p → width (structural.listed d s b p) ≡ suc (width (structural.standing d s p))
+two_wide {b} {d} {s} {p} two = omega (arith, two.wide, width_block 1 (structural.standing d s p))
+
 module _ {b : NonZeroPow2Usize} {d : ℕ} {s : List ℕ} {p : ℕ} (two : Two b d s p) (fr : List ℕ) (bit : ℕ) where
   pub two_ready : {out : List ℕ} → ReadyNumbered (listed d s b p fr bit) out → tag_at fr bit ≡ true → Ready (standing d s p fr (bit + 1)) out
   two_ready r t = ready_as (row_one Copies d s p fr (bit + 1)) (block_ready d s 1 p fr bit (numbered_as (two.same fr bit) r) t)
@@ -296,11 +299,11 @@ module _ {o a b : Option (ℕ × List Rec)} (e : Blocks o a b) {out : List ℕ} 
       pub lengths_fit : n.len + m.len ≤ length out
       lengths_fit = both_small firsts.0.1 seconds.0.1 out both_room wrote_firsts wrote_seconds
 
-      pub list_placed : PlacedNumbered o out (back m.len q l) (record { number = m.number + n.number; len = n.len + m.len })
+      pub list_placed : PlacedNumbered o out (back m.len q l) (record { number = m.number + n.number; len = m.len + n.len })
       list_placed = record {
         recs = firsts.0.1 ++ seconds.0.1;
         there = e.same ∙ (λ i. both_numbered (firsts.1 i) (seconds.1 i)) ∙ ap₂ (λ i j. some (i + j, firsts.0.1 ++ seconds.0.1)) (sym (ap (λ (y : ℕ × List Rec). y.0) first_is)) (sym (ap (λ (y : ℕ × List Rec). y.0) second_is));
-        wrote = both_done firsts.0.1 seconds.0.1 out both_room wrote_firsts wrote_seconds;
+        wrote = let c : m.len + n.len ≡ n.len + m.len = omega arith in rw c (both_done firsts.0.1 seconds.0.1 out both_room wrote_firsts wrote_seconds);
       }
 
 -- the block of half the bound, and the list with that bound

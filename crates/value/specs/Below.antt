@@ -1,13 +1,14 @@
 -- An integer is below 2 ^ w if the bytes before its last w bits are zero, and the byte in which these begin is small enough. Assumes nothing.
 use Rattle.std.specs.Prelude.{◌≡◌, List, Bool, length, get_or, drop, ltb}
 use Rattle.std.proofs.Math.Path.{refl}
-use Rattle.std.proofs.Common.{sym, ap, ◌∙◌, mul-le-mul_right, suc-mul, pow-add, arith, length-take, length-drop, drop-cons, get_or-take, get_or-drop, ltb-true, ltb-false, lt-ltb, le-ltb, eqb-true}
+use Rattle.std.proofs.Common.{sym, ap, ◌∙◌, mul-le-mul_right, suc-mul, pow-add, arith, length-take, length-drop, drop-cons, get_or-take, get_or-drop, ltb-true, ltb-false, lt-ltb, le-ltb, eqb-true, Fits}
 use Rattle.std.proofs.Math.Bool.{true, false}
 use Prim.Native.Nat.{ℕ, zero, suc, ◌+◌, ◌-◌, ◌*◌, ◌/◌, ◌%◌, ◌<◌, ◌≤◌, ◌^◌}
 use Rattle.std.proofs.Math.Nat.{pow-le-pow_right}
 use Rattle.std.proofs.Math.Numerals.{add-one}
 use Rattle.std.proofs.Math.Dec.{eqb}
 use Rattle.std.proofs.lemmas.Bool.{eqb-false}
+use Rattle.std.specs.Int.{w8}
 use Rattle.model.specs.Bytes.{bits_of, number}
 use Rattle.model.specs.Options.{pick}
 use Rattle.model.proofs.Laws.Bytes.{of_bits_bound, length_bits_of, number_cons}
@@ -116,3 +117,23 @@ module _ (s : List ℕ) (v w : ℕ) (h : v < length s / 36) (k : w ≤ 256) (c :
       where
         split : (m : ℕ) → m ≡ w / 8 → 2 ^ w ≡ p * 2 ^ (8 * m)
         split m o = let a : w ≡ w % 8 + 8 * m = omega arith in ap (λ n. 2 ^ n) a ∙ pow-add 2 (w % 8) (8 * m) ∙ ap (λ n. n * 2 ^ (8 * m)) (sym q)
+
+-- the bytes fit
+abbrev Bytes : List ℕ → Type 0
+Bytes s = (i : ℕ) → Fits w8 (get_or s i 0)
+
+pub below_zero : (s : List ℕ) (v : ℕ) → v < length s / 36 → Bytes s → below s v 0 ≡ clear s (v * 36 + 4) 32
+below_zero s v h f = sym (lead_decides s v 0 h (omega arith) (λ i. (f i).fits) (clear s (v * 36 + 4) 32) refl refl)
+
+-- in the words of the code
+pub below_lead : (s : List ℕ) (v w : ℕ) → v < length s / 36 → w ≤ 256 → Bytes s
+    → below s v w ≡ pick (clear s (v * 36 + 4) (32 - (w + 7) / 8)) (pick (eqb (w % 8) 0) true (ltb (get_or s (v * 36 + 4 + (32 - (w + 7) / 8)) 0) (1 * 2 ^ (w % 8) % 2 ^ 64))) false
+below_lead s v w h k f = go (clear s (v * 36 + 4) (lead_of w)) refl (eqb (w % 8) 0) refl
+  where
+    power : 1 * 2 ^ (w % 8) % 2 ^ 64 ≡ 2 ^ (w % 8)
+    power = let b : 2 ^ (w % 8) ≤ 2 ^ 8 = pow-le-pow_right {n = 2} (omega arith) {i = w % 8} {j = 8} (omega arith) in omega arith
+
+    go : (x : Bool) → x ≡ clear s (v * 36 + 4) (lead_of w) → (y : Bool) → eqb (w % 8) 0 ≡ y → below s v w ≡ pick x (pick y true (ltb (get_or s (v * 36 + 4 + lead_of w) 0) (1 * 2 ^ (w % 8) % 2 ^ 64))) false
+    go true e true z = sym (lead_decides s v w h k (λ i. (f i).fits) true e (eqb-true _ 0 z))
+    go true e false z = rw power (sym (last_decides s v w h k (λ i. (f i).fits) true e refl (eqb-false _ 0 z) _ _ refl refl))
+    go false e y z = sym (lead_stops s v w h k (λ i. (f i).fits) false e refl)

@@ -1,6 +1,6 @@
--- Runs of zero bytes: how a loop that joins bytes finds them, and how they are put together.
-use Rattle.std.specs.Prelude.{◌≡◌, refl, List, Bool, true, false, ℕ, zero, suc, ◌+◌, ◌-◌, ◌≤◌, ◌<◌, get_or, eqb}
-use Rattle.std.proofs.Common.{sym, ap, ◌∙◌, add-zero, add-suc, add_assoc, add-one, arith, eqb-true, eq-eqb, ne_eqb}
+-- Runs of zero bytes: how bytes that are joined tell them, and how they are put together.
+use Rattle.std.specs.Prelude.{◌≡◌, refl, List, Bool, true, false, ℕ, zero, suc, ◌+◌, ◌-◌, ◌≤◌, ◌<◌, get_or, take, drop, length, eqb}
+use Rattle.std.proofs.Common.{ap, ◌∙◌, add-zero, add-suc, add_assoc, add-one, arith, length-take, get_or-take, get_or-drop, eqb-true, eq-eqb, ne_eqb}
 use Rattle.std.specs.Int.Bits.{bit_or, or_add_and}
 use Rattle.std.proofs.lemmas.Nat.{and_le_l, and_le_r}
 use Rattle.std.proofs.lemmas.Bool.{eqb-false}
@@ -27,24 +27,6 @@ or_clear a x = go (eqb x 0) refl (eqb a 0) refl
         let k = or_add_and a x in
         let l = and_le_l a x in
         ne_eqb (bit_or a x) 0 (λ z. n (omega (arith, k, l, z)))
-
--- the loop has joined the first i bytes
-pub record Joining (s : List ℕ) (b n x i : ℕ) : Type 0 where
-  pub joined : eqb x 0 ≡ clear s b i
-  pub so_far : i ≤ n
-
-pub joining_start : (s : List ℕ) (b n : ℕ) → Joining s b n 0 0
-unfolding clear
-joining_start s b n = record { joined = refl; so_far = omega arith }
-
-pub joining_next : (s : List ℕ) (b n x i : ℕ) → Joining s b n x i → i < n → Joining s b n (bit_or x (get_or s (b + i) 0)) (i + 1)
-unfolding clear
-joining_next s b n x i r h =
-    let e : clear s b (i + 1) ≡ pick (eqb (get_or s (b + i) 0) 0) (clear s b i) false = rw (add-one i) refl in
-    record { joined = or_clear x (get_or s (b + i) 0) ∙ ap (λ p. pick (eqb (get_or s (b + i) 0) 0) p false) r.joined ∙ sym e; so_far = omega arith }
-
-pub joining_end : (s : List ℕ) (b n x i : ℕ) → Joining s b n x i → n ≤ i → eqb x 0 ≡ clear s b n
-joining_end s b n x i r h = let m = r.so_far in r.joined ∙ ap (λ k. clear s b k) (omega arith)
 
 -- a run is clear if its end and its beginning are
 clear_append : (s : List ℕ) (b m n : ℕ) → clear s b (m + n) ≡ pick (clear s (b + m) n) (clear s b m) false
@@ -73,3 +55,14 @@ clear_overlap s b m n h k =
     three true false false p q e f = rw (e, f) refl
     three false true x p q e f = rw (e, f) refl
     three false false x p q e f = rw (e, f) refl
+
+-- a run of 16 to 32 bytes by its first 16 and its last
+pub clear_long : (s : List ℕ) (b n : ℕ) → 16 ≤ n → n ≤ 32 → clear s b n ≡ pick (clear s b 16) (clear s (b + (n - 16)) 16) false
+clear_long s b n h k = clear_overlap s b 16 n h k
+
+-- one more byte of the n from b on is joined to x
+pub clear_joined : (s : List ℕ) (b n x i : ℕ) → i < length (take (b + n - b) (drop b s)) → eqb x 0 ≡ clear s b i → eqb (bit_or x (get_or (take (b + n - b) (drop b s)) i 0)) 0 ≡ clear s b (i + 1)
+unfolding clear
+clear_joined s b n x i h e =
+    let l : i < b + n - b = omega (arith, simp length-take at h) in
+    rw (get_or-take (b + n - b) (drop b s) i 0 l, get_or-drop b s i 0, add-one i) (or_clear x (get_or s (b + i) 0) ∙ ap (λ p. pick (eqb (get_or s (b + i) 0) 0) p false) e)

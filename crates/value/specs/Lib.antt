@@ -8,6 +8,5 @@ pub mod Arms
 pub mod Clear
 pub mod Below
 pub mod Follow
-pub mod Said
 pub mod Sizes
 pub mod Model

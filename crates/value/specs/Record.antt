@@ -1,11 +1,7 @@
 -- One record of a value file: 36 bytes, kind, choice, a number of two bytes, an integer of 32 bytes.
-use Rattle.std.specs.Prelude.{ℕ, zero, suc, ◌+◌, ◌*◌, ◌/◌, ◌^◌, List, Bool, true, false, length, get_or, take, drop, ltb, eqb}
+use Rattle.std.specs.Prelude.{ℕ, zero, suc, ◌+◌, ◌*◌, ◌/◌, ◌^◌, List, Bool, true, false, length, get_or, take, drop, ltb, eqb, Option, Some, None}
 use Rattle.model.specs.Bytes.{number}
 use Rattle.model.specs.Options.{pick}
-use Rattle.value.specs.declared.Choice.{Choice}
-use Rattle.value.specs.declared.Choice.TheVariants.{Zero, One, Neither}
-use Rattle.value.specs.declared.Count.{Count}
-use Rattle.value.specs.declared.Count.TheVariants.{Of, Not}
 
 -- record v is there, and its first two bytes are these
 unfoldable pub starts : List ℕ → ℕ → ℕ → ℕ → Bool
@@ -29,11 +25,11 @@ unfoldable pub below : List ℕ → ℕ → ℕ → Bool
 below s v w = ltb (number (integer_bytes s v)) (2 ^ w)
 
 -- the choice of a record of kind k that has nothing else
-unfoldable pub choice_at : List ℕ → ℕ → ℕ → Choice
+unfoldable pub choice_at : List ℕ → ℕ → ℕ → Option Bool
 choice_at s v k =
-    pick (starts s v k 0) (pick (eqb (number_at s v) 0) (pick (below s v 0) Zero Neither) Neither)
-    (pick (starts s v k 1) (pick (eqb (number_at s v) 0) (pick (below s v 0) One Neither) Neither) Neither)
+    pick (starts s v k 0) (pick (eqb (number_at s v) 0) (pick (below s v 0) (Some false) None) None)
+    (pick (starts s v k 1) (pick (eqb (number_at s v) 0) (pick (below s v 0) (Some true) None) None) None)
 
 -- the number of a record of kind k that has nothing else
-unfoldable pub count_at : List ℕ → ℕ → ℕ → Count
-count_at s v k = pick (starts s v k 0) (pick (below s v 0) (Of (number_at s v)) Not) Not
+unfoldable pub count_at : List ℕ → ℕ → ℕ → Option ℕ
+count_at s v k = pick (starts s v k 0) (pick (below s v 0) (Some (number_at s v)) None) None

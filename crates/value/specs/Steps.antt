@@ -1,26 +1,20 @@
 -- From a type's record to its children, in the form in which the code's needs ask it. Assumes nothing.
-use Rattle.std.specs.Prelude.{◌≡◌, refl, Bool, true, List, length, get_or}
+use Rattle.std.specs.Prelude.{◌≡◌, refl, Bool, true, List, length, get_or, Result, Ok, Err}
 use Rattle.std.proofs.Math.Path.{sym}
 use Rattle.std.proofs.Common.{subst, ◌∙◌, Fits}
 use Rattle.std.proofs.Math.Bool.{false}
 use Prim.Native.Nat.{ℕ, zero, suc, ◌+◌, ◌-◌, ◌*◌, ◌^◌, ◌<◌, ◌≤◌}
-use Rattle.std.proofs.Math.Numerals.{sub-one}
 use native.Mathlib.Omega.{arith}
 use Rattle.std.specs.Int.{w64}
 use Rattle.types.specs.declared.Rec.{Rec}
 use Rattle.types.specs.declared.Rec.TheVariants.{Gone, Wrong, Types, Enum, Variant}
-use Rattle.types.specs.declared.Walk.{Walk}
-use Rattle.types.specs.declared.Walk.TheVariants.{End}
 use Rattle.types.specs.Record.{rec_at}
 use Rattle.types.specs.Walks.{opens, walk}
 use Rattle.types.specs.Unique.{bad_end}
 use Rattle.types.specs.Trees.{kids, payload, tree, treev}
-use Rattle.types.specs.Steps.{Given, GivenRow, given_levels, given_within, given_below, given_first, given_end, given_rest, treev_in, size_kids, kids_more}
+use Rattle.types.specs.Steps.{Given, GivenRow, given_levels, given_within, given_below, given_first, given_end, given_rest, treev_in, kids_more}
 use Rattle.reply.specs.declared.Refusal.{Refusal}
-use Rattle.model.specs.Types.{size}
-use Rattle.value.specs.declared.Checked.{Checked}
-use Rattle.value.specs.declared.Checked.TheVariants.{Next, Bad}
-use Rattle.value.specs.Lengths.{add, joints}
+use Rattle.model.specs.Types.{nil, cons}
 use Rattle.value.specs.Check.{next, run, check, checks, parts}
 use Rattle.value.specs.Opening.{hop}
 
@@ -54,7 +48,7 @@ Here true (Types n) = ⊥
 Here true (Enum n) = ⊥
 Here true (Variant n) = Unit
 
-opened_here : (v : Bool) (r : Rec) (k : Bool → ℕ → Walk) (e : ℕ) → opens v r k ≡ End e → Here v r
+opened_here : (v : Bool) (r : Rec) (k : Bool → ℕ → Result ℕ Refusal) (e : ℕ) → opens v r k ≡ Ok e → Here v r
 unfolding opens
 opened_here v Gone k e p = bad_end p
 opened_here v Wrong k e p = bad_end p
@@ -65,7 +59,7 @@ opened_here true (Types n) k e p = bad_end p
 opened_here true (Enum n) k e p = bad_end p
 opened_here true (Variant n) k e p = tt
 
-walk_here : (d : ℕ) (v : Bool) (s : List ℕ) (at e : ℕ) → walk d v s at ≡ End e → Here v (rec_at s at)
+walk_here : (d : ℕ) (v : Bool) (s : List ℕ) (at e : ℕ) → walk d v s at ≡ Ok e → Here v (rec_at s at)
 unfolding walk
 walk_here zero v s at e p = opened_here v (rec_at s at) _ e p
 walk_here (suc d) v s at e p = opened_here v (rec_at s at) _ e p
@@ -73,18 +67,16 @@ walk_here (suc d) v s at e p = opened_here v (rec_at s at) _ e p
 pub rec_here : {d : ℕ} {v : Bool} {s E : List ℕ} {at : ℕ} → Given d v s E at → (h k : Rec) → h ≡ rec_at s at → h ≡ k → Here v k
 rec_here {d} {v} {s} {E} {at} g h k p e = subst (Here v) (sym p ∙ e) (walk_here d v s at g.starts.end g.starts.walks)
 
-module _ {d : ℕ} {s E : List ℕ} {at : ℕ} (h : Rec) (g : Given d true s E at) (p : h ≡ rec_at s at) where
-  pub no_gone : h ≡ Gone → ⊥
-  no_gone e = rec_here g h Gone p e
-
-  pub no_wrong : h ≡ Wrong → ⊥
-  no_wrong e = rec_here g h Wrong p e
-
-  pub no_types : (n : ℕ) → h ≡ Types n → ⊥
-  no_types n e = rec_here g h (Types n) p e
-
-  pub no_enum : (n : ℕ) → h ≡ Enum n → ⊥
-  no_enum n e = rec_here g h (Enum n) p e
+-- where a Variant is called for, one stands
+pub no_other : {d : ℕ} {s E : List ℕ} {at : ℕ} (h : Rec) → Given d true s E at → h ≡ rec_at s at → ((n : ℕ) → h ≡ Variant n → ⊥) → ⊥
+no_other h g p f = go h refl
+  where
+    go : (k : Rec) → h ≡ k → ⊥
+    go Gone e = rec_here g h Gone p e
+    go Wrong e = rec_here g h Wrong p e
+    go (Types n) e = rec_here g h (Types n) p e
+    go (Enum n) e = rec_here g h (Enum n) p e
+    go (Variant n) e = f n e
 
 -- the measures
 pub into_row : {d : ℕ} {v : Bool} {s E : List ℕ} {at : ℕ} (t : ℕ) → Given d v s E at → d * 2 ≡ t → (d - 1) * 2 + 1 < t
@@ -96,64 +88,42 @@ into_payload {d} t g e = let h = given_levels g in omega arith
 pub into_one : (d t : ℕ) → d * 2 + 1 ≡ t → d * 2 < t
 into_one d t e = omega arith
 
--- LOOPS: what is left decides
+-- THE LOOPS, of which i values are behind
 
-pub record Running (s E : List ℕ) (at d n : ℕ) (val : List ℕ) (v k e size left : ℕ) : Type 0 where
-  pub rest : run (check (tree d s at) val) n v k ≡ run (check (tree d s at) val) left e size
-  pub there : 0 < left → Given d false s E at
+pub given_if : {n d : ℕ} {s E : List ℕ} {at : ℕ} (i : ℕ) → GivenIf n d s E at → i < n → Given d false s E at
+given_if i g l = g.there (λ z. omega arith)
 
-pub running_start : {n d : ℕ} {s E : List ℕ} {at : ℕ} → GivenIf n d s E at → (val : List ℕ) (v k : ℕ) → Running s E at d n val v k v k n
-running_start g val v k = record { rest = refl; there = λ l. g.there (λ z. omega arith) }
+pub run_step : (f : ℕ → ℕ → Result (ℕ × ℕ) Refusal) (n i e k : ℕ) → i < n → run f (n - i) e k ≡ next (f e k) (run f (n - (i + 1)))
+unfolding run
+run_step f n i e k l = go (n - i) (n - (i + 1)) (omega arith)
+  where
+    go : (a b : ℕ) → a ≡ suc b → run f a e k ≡ next (f e k) (run f b)
+    go a b p = rw p
 
-module _ {s E : List ℕ} {at d n : ℕ} {val : List ℕ} {v k e size left : ℕ} (g : Running s E at d n val v k e size left) where
-  pub running_given : 0 < left → Given d false s E at
-  running_given l = g.there l
+pub run_done : (f : ℕ → ℕ → Result (ℕ × ℕ) Refusal) (n i e k : ℕ) → n ≤ i → run f (n - i) e k ≡ Ok (e, k)
+unfolding run
+run_done f n i e k l = let z : n - i ≡ 0 = omega arith in rw z
 
-  step_of : (l : ℕ) → 0 < l → run (check (tree d s at) val) l e size ≡ next (check (tree d s at) val e size) (run (check (tree d s at) val) (l - 1))
-  unfolding run
-  step_of zero l = absurd (omega arith)
-  step_of (suc m) l = rw sub-one
+pub given_next : {d : ℕ} {s E : List ℕ} {p : ℕ} (n i : ℕ) → i < n → GivenRow d false s E (n - i) p → Given d false s E p
+given_next n i l g = given_first (λ z. omega arith) g
 
-  pub running_next : (c : Checked) (x y : ℕ) → 0 < left → c ≡ check (tree d s at) val e size → c ≡ Next x y → Running s E at d n val v k x y (left - 1)
-  unfolding next
-  running_next c x y l p q = record { rest = g.rest ∙ step_of left l ∙ rw (← p, q); there = λ m. g.there l }
+pub given_left : {d : ℕ} {s E : List ℕ} {p : ℕ} (n i : ℕ) → i < n → GivenRow d false s E (n - i) p → GivenRow d false s E (n - (i + 1)) (get_or E p 0)
+given_left {d} {s} {E} {p} n i l g = let z : n - i - 1 ≡ n - (i + 1) = omega arith in rw z at (given_rest (λ z. omega arith) g)
 
-  pub running_stop : (c : Checked) (x : Refusal) → 0 < left → c ≡ check (tree d s at) val e size → c ≡ Bad x → Bad x ≡ run (check (tree d s at) val) n v k
-  unfolding next
-  running_stop c x l p q = sym (g.rest ∙ step_of left l ∙ rw (← p, q))
+pub kids_step : (E : List ℕ) (d : ℕ) (s : List ℕ) (n i p : ℕ) → GivenRow d false s E (n - i) p → i < n → kids (tree d s) (walk d false s) (n - i) p ≡ cons (tree d s p) (kids (tree d s) (walk d false s) (n - (i + 1)) (get_or E p 0))
+kids_step E d s n i p g l =
+    let z : n - i - 1 ≡ n - (i + 1) = omega arith in
+    rw (kids_more (tree d s) (walk d false s) (n - i) p (λ z. omega arith), z, given_end (given_next n i l g))
 
-  pub running_end : left ≤ 0 → Next e size ≡ run (check (tree d s at) val) n v k
-  unfolding run
-  running_end l = let z : left ≡ 0 = omega arith in sym (g.rest ∙ rw z)
+pub kids_done : (d : ℕ) (s : List ℕ) (n i p : ℕ) → n ≤ i → kids (tree d s) (walk d false s) (n - i) p ≡ nil
+unfolding kids
+kids_done d s n i p l = let z : n - i ≡ 0 = omega arith in rw z
 
-pub record Going (s E : List ℕ) (at d n : ℕ) (val : List ℕ) (v k p e size left : ℕ) : Type 0 where
-  pub rest : parts (kids (tree d s) (walk d false s) n at) val v k ≡ checks (kids (tree d s) (walk d false s) left p) val e size
-  pub row : GivenRow d false s E left p
-
-pub going_start : {s E : List ℕ} {at d n : ℕ} → GivenRow d false s E n at → (val : List ℕ) (v k j size : ℕ) → j ≡ joints n → size ≡ add k j → Going s E at d n val v k at v size n
-unfolding parts
-going_start {s} {E} {at} {d} {n} g val v k j size p q = record { rest = rw (size_kids (tree d s) (walk d false s) n at, ← p, ← q); row = g }
-
-module _ {s E : List ℕ} {at d n : ℕ} {val : List ℕ} {v k p e size left : ℕ} (g : Going s E at d n val v k p e size left) where
-  pub going_given : 0 < left → Given d false s E p
-  going_given l = given_first (λ z. omega arith) g.row
-
-  pub going_next : (c : Checked) (x y q : ℕ) → 0 < left → c ≡ check (tree d s p) val e size → c ≡ Next x y → q ≡ get_or E p 0 → Going s E at d n val v k q x y (left - 1)
-  unfolding checks next
-  going_next c x y q l a b f = record {
-    rest = g.rest ∙ rw (kids_more (tree d s) (walk d false s) left p (λ z. omega arith), ← a, b, f, given_end (going_given l));
-    row = rw f (given_rest (λ z. omega arith) g.row);
-  }
-
-  pub going_stop : (c : Checked) (x : Refusal) → 0 < left → c ≡ check (tree d s p) val e size → c ≡ Bad x → Bad x ≡ parts (kids (tree d s) (walk d false s) n at) val v k
-  unfolding checks next
-  going_stop c x l a b = sym (g.rest ∙ rw (kids_more (tree d s) (walk d false s) left p (λ z. omega arith), ← a, b))
-
-  pub going_end : left ≤ 0 → Next e size ≡ parts (kids (tree d s) (walk d false s) n at) val v k
-  unfolding checks kids
-  going_end l = let z : left ≡ 0 = omega arith in sym (g.rest ∙ rw z)
+pub kids_stop : {E : List ℕ} {d : ℕ} {s : List ℕ} {p : ℕ} (n i : ℕ) (val : List ℕ) (e k : ℕ) (c : Result (ℕ × ℕ) Refusal) (x : Refusal) → GivenRow d false s E (n - i) p → i < n → c ≡ check (tree d s p) val e k → c ≡ Err x → Err x ≡ checks (kids (tree d s) (walk d false s) (n - i) p) val e k
+unfolding checks next
+kids_stop {E} {d} {s} {p} n i val e k c x g l a b = sym (rw (kids_step E d s n i p g l, ← a, b))
 
 -- a Variant's parts
-pub payload_is : {d : ℕ} {s E : List ℕ} {at : ℕ} (h : Rec) (n : ℕ) (val : List ℕ) (v k : ℕ) (b : Checked) → Given d true s E at → h ≡ rec_at s at → h ≡ Variant n → b ≡ parts (kids (tree (d - 1) s) (walk (d - 1) false s) n (at + 1)) val v k → b ≡ parts (treev d s at) val v k
+pub payload_is : {d : ℕ} {s E : List ℕ} {at : ℕ} (h : Rec) (n : ℕ) (val : List ℕ) (v k : ℕ) (b : Result (ℕ × ℕ) Refusal) → Given d true s E at → h ≡ rec_at s at → h ≡ Variant n → b ≡ parts (kids (tree (d - 1) s) (walk (d - 1) false s) n (at + 1)) val v k → b ≡ parts (treev d s at) val v k
 unfolding payload
 payload_is {d} {s} {E} {at} h n val v k b g p e q = rw (treev_in s at d h (Variant n) (given_levels g) p e) q

@@ -2,51 +2,44 @@
 // Shape lengths are cut at 65,537, one more than a shape may have records.
 #![tactic(auto)]
 
-ghost use Rattle.std.specs.Prelude.{◌≡◌, true, false, ◌≤◌, ◌<◌, ◌+◌, ◌*◌, ◌/◌, ◌^◌, length};
+ghost use Rattle.std.specs.Prelude.{get_or, ◌≡◌, true, false, ◌≤◌, ◌<◌, ◌+◌, ◌*◌, ◌/◌, ◌^◌, length};
 ghost use Rattle.model.specs.Balanced.{btree};
-ghost use Rattle.array.specs.Lefts.{left_sizes};
+ghost use Rattle.types.specs.Entries.{ends};
 ghost use Rattle.types.specs.Heads.{Fair, FairWidth, FairBound};
 ghost use Rattle.types.specs.Steps.{Given, GivenRow};
 ghost use Rattle.types.specs.Trees.{tree, treev, kids};
 ghost use Rattle.types.specs.Walks.{walk};
 ghost use Rattle.value.specs.Record.{starts, number_at, below, clear, choice_at, count_at};
 ghost use Rattle.value.specs.Lengths.{add, joints, blocks, tags};
-ghost use Rattle.value.specs.Opening.{by_choice, counted, uint_opens, list_opens, enum_opens, opens_of, hop};
+ghost use Rattle.value.specs.Opening.{byte_of, by_choice, counted, uint_opens, list_opens, enum_opens, opens_of, hop};
 ghost use Rattle.value.specs.Check.{check, parts, run, file_answer};
 ghost use Rattle.value.specs.Steps.{GivenIf};
 
-use array::{Lefts, btree_split_index};
+use array::btree_split_index;
 use num::{NonZeroPow2Usize, Pow2Usize};
 use reply::Refusal;
-use table::{cut_off, end_at};
-use types::{Head, Rec, head_at, rec_at};
+use table::cut_off;
+use types::{Entry, Head, Rec, Table, head_at, rec_at};
 
-// Where the next value starts and how many records the shape has up to there, or the fault that comes first in the file.
+// The levels that a type may have.
+const LEVELS: usize = 32;
+
+// The kind of a record, as the file's first byte says it.
 #[derive(Clone, Copy)]
-pub enum Checked {
-    Next(usize, usize),
-    Bad(Refusal),
+enum Kind {
+    Boolean = 1,
+    UInt = 2,
+    Either = 3,
+    Opt = 4,
+    Tuple = 5,
+    Array = 6,
+    Listed = 7,
+    Variants = 8,
 }
 
-// The choice that a record says.
-#[derive(Clone, Copy)]
-enum Choice {
-    Zero,
-    One,
-    Neither,
-}
-
-// The number that a record says.
-#[derive(Clone, Copy)]
-enum Count {
-    Of(usize),
-    Not,
-}
-
-// What a record of a value file calls for: n values of the type's child j, or n parts, or the payload of Variant i, the last number being how many records of the shape are its own; or the row that refuses it.
+// What a record of a value file calls for: n values of the type's child j, or n parts, or the payload of Variant i, the last number being how many records of the shape are its own.
 #[derive(Clone, Copy)]
 enum Opens {
-    Wrong(Refusal),
     Run(usize, usize, usize),
     Parts(usize),
     Case(usize, usize),
@@ -60,6 +53,7 @@ pub fn wide(x: u8) -> usize
 }
 
 // The sum of two lengths, cut.
+#[tactic(auto, unfolding(crate::specs::Lengths::add))]
 fn sum(k: usize, n: usize) -> usize
     ensures { result ≡ add k n }
 {
@@ -67,38 +61,23 @@ fn sum(k: usize, n: usize) -> usize
 }
 
 // The records that join n parts to one: pairs, or the unit where there are none.
+#[tactic(auto, unfolding(crate::specs::Lengths::joints))]
 fn joints_of(n: usize) -> usize
     ensures { result ≡ joints n }
 {
     if n == 0 { 1 } else { n - 1 }
 }
 
-// The k-th power of two.
-fn power_of_two(k: usize) -> usize
-    requires { k ≤ 16 }
-    ensures { result ≡ 2 ^ k }
-{
-    let mut power: usize = 1;
-    let mut i: usize = 0;
-    while i < k {
-        power = power * 2;
-        i += 1;
-    }
-    power
-}
-
 // The own records of a list of m elements in blocks of up to 2 ^ e, added to k.
+#[tactic(auto, using(crate::specs::Arms::blocks_step), unfolding(crate::specs::Lengths::blocks))]
 fn list_blocks(e: usize, m: usize, k: usize) -> usize
     requires { e ≤ 16 }
     ensures { result ≡ blocks e m k }
 {
     if e == 0 {
-        if m == 0 {
-            return sum(k, 2);
-        }
-        return sum(k, 1);
+        return sum(k, if m == 0 { 2 } else { 1 });
     }
-    let block = power_of_two(e);
+    let block = 1 << e;
     if m < block {
         return list_blocks(e - 1, m, sum(k, 3));
     }
@@ -106,74 +85,73 @@ fn list_blocks(e: usize, m: usize, k: usize) -> usize
 }
 
 // The tags that lead to leaf i of n, added to k.
-fn enum_tags(n: usize, i: usize, k: usize, lefts: &Lefts) -> usize
-    requires n_bound { n ≤ 65536 }
-    requires lefts_value { lefts.now ≡ left_sizes }
+#[tactic(auto, using(crate::specs::Arms::tags_none, crate::specs::Arms::tags_less, crate::specs::Arms::tags_more, model::proofs::Laws::Balanced::split_bounds))]
+fn enum_tags(n: usize, i: usize, k: usize) -> usize
+    requires { n ≤ 65536 }
     ensures { result ≡ tags (btree n) i k }
 {
     if n < 2 {
         return k;
     }
-    let h = btree_split_index(n, lefts);
+    let h = btree_split_index(n);
     if i < h {
-        return enum_tags(h, i, sum(k, 1), lefts);
+        return enum_tags(h, i, sum(k, 1));
     }
-    enum_tags(n - h, i - h, sum(k, 1), lefts)
+    enum_tags(n - h, i - h, sum(k, 1))
 }
 
-// The place after i subtrees from p on; 0 past the column's end.
-fn hop_over(ends: &[usize], p: usize, i: usize) -> usize
-    ensures { result ≡ hop ends.now i p }
+// The record after the subtree of record i; 0 past the table's end.
+fn end_at(entries: &[Entry], i: usize) -> usize
+    ensures { result ≡ get_or (ends entries.now) i 0 }
+{
+    if i < entries.len() { entries[i].end } else { 0 }
+}
+
+// The place after i subtrees from p on; 0 past the table's end.
+#[tactic(auto, using(crate::specs::Arms::hop_on), unfolding(crate::specs::Opening::hop))]
+fn hop_over(entries: &[Entry], p: usize, i: usize) -> usize
+    ensures { result ≡ hop (ends entries.now) i p }
 {
     let mut q = p;
-    let mut left = i;
-    while left > 0 {
-        q = end_at(ends, q);
-        left -= 1;
+    for _ in 0..i {
+        q = end_at(entries, q);
     }
     q
 }
 
 // The number in bytes 2 and 3 of record v.
+#[tactic(auto, unfolding(crate::specs::Record::number_at))]
 pub fn number_of(val: &[u8], v: usize) -> usize
     requires { v < length val.now / 36 }
     ensures { result ≡ number_at val.now v }
 {
     let b = v * 36;
-    wide(val[b + 2]) * 256 + wide(val[b + 3])
+    usize::from(val[b + 2]) * 256 + usize::from(val[b + 3])
 }
 
 // Is record v there, with this kind and choice?
-fn starts_with(val: &[u8], v: usize, kind: u8, choice: u8) -> bool
-    ensures { result ≡ starts val.now v kind choice }
+#[tactic(auto, unfolding(crate::specs::Record::starts))]
+fn starts_with(val: &[u8], v: usize, kind: Kind, choice: u8) -> bool
+    ensures { result ≡ starts val.now v (byte_of kind) choice }
 {
-    if v < val.len() / 36 {
-        let b = v * 36;
-        if val[b] == kind {
-            val[b + 1] == choice
-        } else {
-            false
-        }
-    } else {
-        false
-    }
+    v < val.len() / 36 && val[v * 36] == kind as u8 && val[v * 36 + 1] == choice
 }
 
 // Are the n bytes from place b on zero?
+#[tactic(auto, using(crate::specs::Clear::clear_joined), unfolding(crate::specs::Record::clear))]
 fn is_clear(val: &[u8], b: usize, n: usize) -> bool
     requires { b + n ≤ length val.now }
     ensures { result ≡ clear val.now b n }
 {
     let mut any: u8 = 0;
-    let mut i: usize = 0;
-    while i < n {
-        any = any | val[b + i];
-        i += 1;
+    for x in &val[b..b + n] {
+        any |= *x;
     }
     any == 0
 }
 
 // Are the first n bytes of the integer of record v zero? Runs of a fixed length are the quickest to look at, and two that overlap are as good as one.
+#[tactic(auto, using(crate::specs::Clear::clear_long))]
 fn lead_is_clear(val: &[u8], v: usize, n: usize) -> bool
     requires { (v < length val.now / 36) × (n ≤ 32) }
     ensures { result ≡ clear val.now (v * 36 + 4) n }
@@ -182,29 +160,22 @@ fn lead_is_clear(val: &[u8], v: usize, n: usize) -> bool
     if n < 16 {
         return is_clear(val, b, n);
     }
-    if is_clear(val, b, 16) {
-        return is_clear(val, b + (n - 16), 16);
-    }
-    false
+    is_clear(val, b, 16) && is_clear(val, b + (n - 16), 16)
 }
 
 // Is the integer of record v below 2 ^ w?
+#[tactic(auto, using(crate::specs::Below::below_lead))]
 fn is_below(val: &[u8], v: usize, w: usize) -> bool
     requires { (v < length val.now / 36) × (w ≤ 256) }
     ensures { result ≡ below val.now v w }
 {
     let lead = 32 - (w + 7) / 8;
-    if lead_is_clear(val, v, lead) {
-        let r = w % 8;
-        if r == 0 {
-            return true;
-        }
-        return wide(val[v * 36 + 4 + lead]) < power_of_two(r);
-    }
-    false
+    let r = w % 8;
+    lead_is_clear(val, v, lead) && (r == 0 || usize::from(val[v * 36 + 4 + lead]) < 1 << r)
 }
 
 // Is the integer of record v zero?
+#[tactic(auto, using(crate::specs::Below::below_zero))]
 fn is_zero(val: &[u8], v: usize) -> bool
     requires { v < length val.now / 36 }
     ensures { result ≡ below val.now v 0 }
@@ -213,321 +184,261 @@ fn is_zero(val: &[u8], v: usize) -> bool
 }
 
 // The choice of record v, if it is of this kind and all else in it is zero.
-fn choice_of(val: &[u8], v: usize, kind: u8) -> Choice
-    ensures { result ≡ choice_at val.now v kind }
+#[tactic(auto, unfolding(crate::specs::Record::choice_at, crate::specs::Record::starts))]
+fn choice_of(val: &[u8], v: usize, kind: Kind) -> Option<bool>
+    ensures { result ≡ choice_at val.now v (byte_of kind) }
 {
-    if starts_with(val, v, kind, 0) {
-        if number_of(val, v) == 0 {
-            if is_zero(val, v) {
-                return Choice::Zero;
-            }
-        }
-        return Choice::Neither;
+    let one = starts_with(val, v, kind, 1);
+    if (one || starts_with(val, v, kind, 0)) && number_of(val, v) == 0 && is_zero(val, v) {
+        Some(one)
+    } else {
+        None
     }
-    if starts_with(val, v, kind, 1) {
-        if number_of(val, v) == 0 {
-            if is_zero(val, v) {
-                return Choice::One;
-            }
-        }
-    }
-    Choice::Neither
 }
 
 // The number of record v, if it is of this kind and all else in it is zero.
-fn count_of(val: &[u8], v: usize, kind: u8) -> Count
-    ensures { result ≡ count_at val.now v kind }
+#[tactic(auto, unfolding(crate::specs::Record::count_at, crate::specs::Record::starts))]
+fn count_of(val: &[u8], v: usize, kind: Kind) -> Option<usize>
+    ensures { result ≡ count_at val.now v (byte_of kind) }
 {
-    if starts_with(val, v, kind, 0) {
-        if is_zero(val, v) {
-            return Count::Of(number_of(val, v));
-        }
+    if starts_with(val, v, kind, 0) && is_zero(val, v) {
+        Some(number_of(val, v))
+    } else {
+        None
     }
-    Count::Not
 }
 
 // What is called for on this choice; `NotOneValue` refuses where there is none.
-fn on_choice(c: Choice, zero: Opens, one: Opens) -> Opens
+#[tactic(auto, unfolding(crate::specs::Opening::by_choice))]
+fn on_choice(c: Option<bool>, zero: Opens, one: Opens) -> Result<Opens, Refusal>
     ensures { result ≡ by_choice c zero one }
 {
-    match c {
-        Choice::Zero => zero,
-        Choice::One => one,
-        Choice::Neither => Opens::Wrong(Refusal::NotOneValue),
+    if c.ok_or(Refusal::NotOneValue)? {
+        Ok(one)
+    } else {
+        Ok(zero)
     }
 }
 
 // What is called for if the number is n; `NotOneValue` refuses where it is not.
-fn on_count(c: Count, n: usize, o: Opens) -> Opens
+#[tactic(auto, unfolding(crate::specs::Opening::counted))]
+fn on_count(c: Option<usize>, n: usize, o: Opens) -> Result<Opens, Refusal>
     ensures { result ≡ counted c n o }
 {
     match c {
-        Count::Of(m) => if m == n {
-            o
-        } else {
-            Opens::Wrong(Refusal::NotOneValue)
-        },
-        Count::Not => Opens::Wrong(Refusal::NotOneValue),
+        Some(m) if m == n => Ok(o),
+        _ => Err(Refusal::NotOneValue),
     }
 }
 
 // A UInt of w bits at record v: a product of w bits, each of two records. An integer too large for them is refused last.
-fn open_uint(val: &[u8], v: usize, w: Pow2Usize) -> Opens
+#[tactic(auto, using(types::specs::Heads::width_range), unfolding(crate::specs::Opening::uint_opens, crate::specs::Record::starts, crate::specs::Lengths::joints))]
+fn open_uint(val: &[u8], v: usize, w: Pow2Usize) -> Result<Opens, Refusal>
     requires { FairWidth w }
     ensures { result ≡ uint_opens w.0 val.now v }
 {
     let n = w.get();
-    if starts_with(val, v, 2, 0) {
-        if number_of(val, v) == n {
-            if is_below(val, v, n) {
-                return Opens::Run(0, 0, joints_of(n) + 2 * n);
-            }
-            return Opens::Wrong(Refusal::IntegerTooLarge);
-        }
+    if !starts_with(val, v, Kind::UInt, 0) || number_of(val, v) != n {
+        return Err(Refusal::NotOneValue);
     }
-    Opens::Wrong(Refusal::NotOneValue)
+    if !is_below(val, v, n) {
+        return Err(Refusal::IntegerTooLarge);
+    }
+    Ok(Opens::Run(0, 0, joints_of(n) + 2 * n))
 }
 
 // A List with the bound b whose record says this number. One at or above the bound is refused last.
-fn open_list(c: Count, b: NonZeroPow2Usize) -> Opens
+#[tactic(auto, using(types::specs::Heads::log_range), unfolding(crate::specs::Opening::list_opens))]
+fn open_list(c: Option<usize>, b: NonZeroPow2Usize) -> Result<Opens, Refusal>
     requires { FairBound b }
     ensures { result ≡ list_opens c b.0 }
 {
-    match c {
-        Count::Of(m) => if m < b.get() {
-            Opens::Run(0, m, list_blocks(b.log2() - 1, m, 0))
-        } else {
-            Opens::Wrong(Refusal::ListTooLong)
-        },
-        Count::Not => Opens::Wrong(Refusal::NotOneValue),
+    let m = c.ok_or(Refusal::NotOneValue)?;
+    if m < b.get() {
+        Ok(Opens::Run(0, m, list_blocks(b.log2() - 1, m, 0)))
+    } else {
+        Err(Refusal::ListTooLong)
     }
 }
 
 // An Enum of n Variants whose record says this number.
-fn open_enum(c: Count, n: usize, lefts: &Lefts) -> Opens
-    requires n_bound { n ≤ 65536 }
-    requires lefts_value { lefts.now ≡ left_sizes }
+#[tactic(auto, unfolding(crate::specs::Opening::enum_opens))]
+fn open_enum(c: Option<usize>, n: usize) -> Result<Opens, Refusal>
+    requires { n ≤ 65536 }
     ensures { result ≡ enum_opens c n }
 {
     match c {
-        Count::Of(i) => if i < n {
-            Opens::Case(i, enum_tags(n, i, 0, lefts))
-        } else {
-            Opens::Wrong(Refusal::NotOneValue)
-        },
-        Count::Not => Opens::Wrong(Refusal::NotOneValue),
+        Some(i) if i < n => Ok(Opens::Case(i, enum_tags(n, i, 0))),
+        _ => Err(Refusal::NotOneValue),
     }
 }
 
 // What record v calls for as a value of a type whose record says this.
-fn open_record(h: Head, val: &[u8], v: usize, lefts: &Lefts) -> Opens
-    requires fair { Fair h }
-    requires lefts_value { lefts.now ≡ left_sizes }
+#[tactic(auto, unfolding(crate::specs::Opening::opens_of))]
+fn open_record(h: Head, val: &[u8], v: usize) -> Result<Opens, Refusal>
+    requires { Fair h }
     ensures { result ≡ opens_of h val.now v }
 {
     match h {
-        Head::Missing => Opens::Wrong(Refusal::NotOneValue),
-        Head::Faulty => Opens::Wrong(Refusal::NotOneValue),
-        Head::Never => Opens::Wrong(Refusal::NotOneValue),
+        Head::Missing | Head::Faulty | Head::Never | Head::Payload(_) => Err(Refusal::NotOneValue),
         Head::Boolean => on_choice(
-            choice_of(val, v, 1),
+            choice_of(val, v, Kind::Boolean),
             Opens::Run(0, 0, 2),
             Opens::Run(0, 0, 2),
         ),
         Head::UInt(w) => open_uint(val, v, w),
         Head::Either => on_choice(
-            choice_of(val, v, 3),
+            choice_of(val, v, Kind::Either),
             Opens::Run(0, 1, 1),
             Opens::Run(1, 1, 1),
         ),
         Head::Opt => on_choice(
-            choice_of(val, v, 4),
+            choice_of(val, v, Kind::Opt),
             Opens::Run(0, 0, 2),
             Opens::Run(0, 1, 1),
         ),
-        Head::Tuple(n) => on_count(count_of(val, v, 5), n, Opens::Parts(n)),
-        Head::Array(n) => on_count(count_of(val, v, 6), n, Opens::Run(0, n, joints_of(n))),
-        Head::Listed(b) => open_list(count_of(val, v, 7), b),
-        Head::Variants(n) => open_enum(count_of(val, v, 8), n, lefts),
-        Head::Payload(_) => Opens::Wrong(Refusal::NotOneValue),
-    }
-}
-
-// Where the value that starts at record v ends, of the type at place `at` with `level` levels; `shape` records of the shape stand before it.
-#[cycle(check_parts_check_payload_check_run_check_value)]
-fn check_value(
-    ty: &[u8],
-    ends: &[usize],
-    at: usize,
-    level: usize,
-    val: &[u8],
-    v: usize,
-    shape: usize,
-    lefts: &Lefts,
-) -> Checked
-    requires given { Given level false ty.now ends.now at }
-    requires lefts_value { lefts.now ≡ left_sizes }
-    ensures { result ≡ check (tree level ty.now at) val.now v shape }
-{
-    match open_record(head_at(ty, at), val, v, lefts) {
-        Opens::Wrong(x) => Checked::Bad(x),
-        Opens::Run(j, n, own) => check_run(
-            ty,
-            ends,
-            hop_over(ends, at + 1, j),
-            level - 1,
+        Head::Tuple(n) => on_count(count_of(val, v, Kind::Tuple), n, Opens::Parts(n)),
+        Head::Array(n) => on_count(
+            count_of(val, v, Kind::Array),
             n,
-            val,
-            v + 1,
-            sum(shape, own),
-            lefts,
+            Opens::Run(0, n, joints_of(n)),
         ),
-        Opens::Parts(n) => check_parts(ty, ends, at + 1, level - 1, n, val, v + 1, shape, lefts),
-        Opens::Case(i, own) => check_payload(
-            ty,
-            ends,
-            hop_over(ends, at + 1, i),
-            level - 1,
-            val,
-            v + 1,
-            sum(shape, own),
-            lefts,
-        ),
+        Head::Listed(b) => open_list(count_of(val, v, Kind::Listed), b),
+        Head::Variants(n) => open_enum(count_of(val, v, Kind::Variants), n),
     }
 }
 
-// n values of the type at place `at`, from record v on.
-#[cycle(check_parts_check_payload_check_run_check_value)]
-fn check_run(
-    ty: &[u8],
-    ends: &[usize],
-    at: usize,
-    level: usize,
-    n: usize,
-    val: &[u8],
-    v: usize,
-    shape: usize,
-    lefts: &Lefts,
-) -> Checked
-    requires given_if { GivenIf n level ty.now ends.now at }
-    requires lefts_value { lefts.now ≡ left_sizes }
-    ensures { result ≡ run (check (tree level ty.now at) val.now) n v shape }
-{
-    let mut e = v;
-    let mut size = shape;
-    let mut left = n;
-    while left > 0 {
-        match check_value(ty, ends, at, level, val, e, size, lefts) {
-            Checked::Next(next, more) => {
-                e = next;
-                size = more;
-                left -= 1;
+// A value file, and the type file that it is read by, with its table.
+#[derive(Clone, Copy)]
+struct Files<'a> {
+    ty: &'a [u8],
+    entries: &'a [Entry],
+    val: &'a [u8],
+}
+
+impl Files<'_> {
+    // Where the value that starts at record v ends, of the type at place `at` with `level` levels; `shape` records of the shape stand before it.
+    #[cycle(check)]
+    fn check_value(
+        &self,
+        at: usize,
+        level: usize,
+        v: usize,
+        shape: usize,
+    ) -> Result<(usize, usize), Refusal>
+        requires { Given level false self.now.ty.now (ends self.now.entries.now) at }
+        ensures { result ≡ check (tree level self.now.ty.now at) self.now.val.now v shape }
+    {
+        let opens = open_record(head_at(self.ty, at), self.val, v)?;
+        let (at, level, v) = (at + 1, level - 1, v + 1);
+        match opens {
+            Opens::Run(j, n, own) => {
+                self.check_run(hop_over(self.entries, at, j), level, n, v, sum(shape, own))
             }
-            Checked::Bad(x) => {
-                return Checked::Bad(x);
+            Opens::Parts(n) => self.check_parts(at, level, n, v, shape),
+            Opens::Case(i, own) => {
+                self.check_payload(hop_over(self.entries, at, i), level, v, sum(shape, own))
             }
         }
     }
-    Checked::Next(e, size)
-}
 
-// A tuple's n parts, of the types from place `at` on, from record v on.
-#[cycle(check_parts_check_payload_check_run_check_value)]
-fn check_parts(
-    ty: &[u8],
-    ends: &[usize],
-    at: usize,
-    level: usize,
-    n: usize,
-    val: &[u8],
-    v: usize,
-    shape: usize,
-    lefts: &Lefts,
-) -> Checked
-    requires given_row { GivenRow level false ty.now ends.now n at }
-    requires lefts_value { lefts.now ≡ left_sizes }
-    ensures { result ≡ parts (kids (tree level ty.now) (walk level false ty.now) n at) val.now v shape }
-{
-    let mut p = at;
-    let mut e = v;
-    let mut size = sum(shape, joints_of(n));
-    let mut left = n;
-    while left > 0 {
-        match check_value(ty, ends, p, level, val, e, size, lefts) {
-            Checked::Next(next, more) => {
-                p = end_at(ends, p);
-                e = next;
-                size = more;
-                left -= 1;
-            }
-            Checked::Bad(x) => {
-                return Checked::Bad(x);
-            }
+    // n values of the type at place `at`, from record v on.
+    #[tactic(auto, using(crate::specs::Steps::given_if, crate::specs::Steps::run_step, crate::specs::Steps::run_done), unfolding(crate::specs::Check::next))]
+    #[cycle(check)]
+    fn check_run(
+        &self,
+        at: usize,
+        level: usize,
+        n: usize,
+        v: usize,
+        shape: usize,
+    ) -> Result<(usize, usize), Refusal>
+        requires { GivenIf n level self.now.ty.now (ends self.now.entries.now) at }
+        ensures { result ≡ run (check (tree level self.now.ty.now at) self.now.val.now) n v shape }
+    {
+        let mut e = v;
+        let mut size = shape;
+        for _ in 0..n {
+            (e, size) = self.check_value(at, level, e, size)?;
         }
+        Ok((e, size))
     }
-    Checked::Next(e, size)
-}
 
-// The payload of the Variant at place `at`, from record v on.
-#[cycle(check_parts_check_payload_check_run_check_value)]
-fn check_payload(
-    ty: &[u8],
-    ends: &[usize],
-    at: usize,
-    level: usize,
-    val: &[u8],
-    v: usize,
-    shape: usize,
-    lefts: &Lefts,
-) -> Checked
-    requires given { Given level true ty.now ends.now at }
-    requires lefts_value { lefts.now ≡ left_sizes }
-    ensures { result ≡ parts (treev level ty.now at) val.now v shape }
-{
-    match rec_at(ty, at) {
-        Rec::Gone => Checked::Bad(Refusal::NotOneValue),
-        Rec::Wrong => Checked::Bad(Refusal::NotOneValue),
-        Rec::Types(_) => Checked::Bad(Refusal::NotOneValue),
-        Rec::Enum(_) => Checked::Bad(Refusal::NotOneValue),
-        Rec::Variant(n) => check_parts(ty, ends, at + 1, level - 1, n, val, v, shape, lefts),
+    // A tuple's n parts, of the types from place `at` on, from record v on.
+    #[tactic(auto, using(crate::specs::Steps::given_next, crate::specs::Steps::given_left, crate::specs::Steps::kids_step, crate::specs::Steps::kids_done, types::specs::Steps::size_kids), unfolding(crate::specs::Check::parts, crate::specs::Check::checks, crate::specs::Check::next))]
+    #[cycle(check)]
+    fn check_parts(
+        &self,
+        at: usize,
+        level: usize,
+        n: usize,
+        v: usize,
+        shape: usize,
+    ) -> Result<(usize, usize), Refusal>
+        requires { GivenRow level false self.now.ty.now (ends self.now.entries.now) n at }
+        ensures { result ≡ parts (kids (tree level self.now.ty.now) (walk level false self.now.ty.now) n at) self.now.val.now v shape }
+    {
+        let mut p = at;
+        let mut e = v;
+        let mut size = sum(shape, joints_of(n));
+        for _ in 0..n {
+            (e, size) = self.check_value(p, level, e, size)?;
+            p = end_at(self.entries, p);
+        }
+        Ok((e, size))
+    }
+
+    // The payload of the Variant at place `at`, from record v on.
+    #[cycle(check)]
+    fn check_payload(
+        &self,
+        at: usize,
+        level: usize,
+        v: usize,
+        shape: usize,
+    ) -> Result<(usize, usize), Refusal>
+        requires { Given level true self.now.ty.now (ends self.now.entries.now) at }
+        ensures { result ≡ parts (treev level self.now.ty.now at) self.now.val.now v shape }
+    {
+        let Rec::Variant(n) = rec_at(self.ty, at) else {
+            unreachable!()
+        };
+        self.check_parts(at + 1, level - 1, n, v, shape)
     }
 }
 
 // Rows 15, 16, 21 and 22 of a value file as one of the type at place `at`, with `level` levels from there on: how many records it has and how many its shape, or the fault that comes first.
+#[tactic(auto, unfolding(crate::specs::Check::file_answer, crate::specs::Check::whole))]
 pub fn check_part(
-    ty: &[u8],
-    ends: &[usize],
+    table: &Table<'_>,
     at: usize,
     level: usize,
     val: &[u8],
-    lefts: &Lefts,
-) -> Checked
-    requires given { Given level false ty.now ends.now at }
-    requires lefts_value { lefts.now ≡ left_sizes }
-    ensures { result ≡ file_answer (tree level ty.now at) val.now }
+) -> Result<(usize, usize), Refusal>
+    requires { Given level false table.now.ty.now (ends table.now.entries.now) at }
+    ensures { result ≡ file_answer (tree level table.now.ty.now at) val.now }
 {
     let n = val.len();
-    if n == 0 {
-        return Checked::Bad(Refusal::ValueLength);
+    if n == 0 || n % 36 != 0 {
+        return Err(Refusal::ValueLength);
     }
-    if n % 36 != 0 {
-        return Checked::Bad(Refusal::ValueLength);
+    let (e, size) = Files {
+        ty: table.ty,
+        entries: table.entries,
+        val,
     }
-    match check_value(ty, ends, at, level, val, 0, 0, lefts) {
-        Checked::Next(e, size) => if e == n / 36 {
-            Checked::Next(e, size)
-        } else {
-            Checked::Bad(Refusal::NotOneValue)
-        },
-        Checked::Bad(x) => Checked::Bad(x),
+    .check_value(at, level, 0, 0)?;
+    if e == n / 36 {
+        Ok((e, size))
+    } else {
+        Err(Refusal::NotOneValue)
     }
 }
 
 // Of a whole value file of an accepted type.
-pub fn check_file(ty: &[u8], ends: &[usize], val: &[u8], lefts: &Lefts) -> Checked
-    requires given { Given 32 false ty.now ends.now 0 }
-    requires lefts_value { lefts.now ≡ left_sizes }
-    ensures { result ≡ file_answer (tree 32 ty.now 0) val.now }
+pub fn check_file(table: &Table<'_>, val: &[u8]) -> Result<(usize, usize), Refusal>
+    requires { Given 32 false table.now.ty.now (ends table.now.entries.now) 0 }
+    ensures { result ≡ file_answer (tree 32 table.now.ty.now 0) val.now }
 {
-    check_part(ty, ends, 0, 32, val, lefts)
+    check_part(table, 0, LEVELS, val)
 }

@@ -5,15 +5,14 @@
 --     a list       a block of half the bound, and the list with that bound behind it (`list_more`)
 -- A call goes a level down, or stays on its level with fewer choices or half the bound: a level weighs more than all counts and bounds.
 -- Assumes nothing.
-use Prim.Native.Nat.{◌+◌, ◌*◌, ◌^◌}
+use Rattle.std.specs.Prelude.{Some}
+use Prim.Native.Nat.{◌+◌, ◌-◌, ◌*◌, ◌^◌}
+use Rattle.types.specs.Entries.{ends}
 use Rattle.accept.specs.Laws.Walking.{Rowing}
 use Rattle.accept.proofs.+see_block_see_list_see_record_see_row_see_sum.Given as goal
 
-abbrev pub invariant-see_row-loop-left : goal.invariant-see_row-loop-left
-invariant-see_row-loop-left l = Rowing l.parts l.level l.ty l.ends l.n l.at l.frame l.bit l.all l.place l.here l.left
-
-abbrev pub decreases-see_row-loop-left : goal.decreases-see_row-loop-left
-decreases-see_row-loop-left l = l.left
+abbrev pub invariant-see_row-loop : goal.invariant-see_row-loop
+invariant-see_row-loop l = Rowing l.parts l.level l.table.ty.now (ends l.table.entries.now) l.n l.at l.frame l.bit (Some l.all) l.place l.here (l.n - l.counter)
 
 abbrev pub decreases-see_block : goal.decreases-see_block
 decreases-see_block l = l.level * 2 ^ 17 + 2

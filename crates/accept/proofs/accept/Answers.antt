@@ -1,22 +1,23 @@
 -- What stands at the first record is the file's type, and its width is the table's: the length, the tail and what is seen are what the model asks. Assumes nothing.
-use mathlib.Core.Path.{refl}
+use mathlib.Core.Path.{refl, ap, ◌∙◌}
 use borrow.Author.Rules.{rules}
 use Rattle.std.proofs.lemmas.Bool.{not_from_true, not_from_false}
 use Rattle.structural.proofs.Laws.Forms.{stands}
-use Rattle.accept.specs.Laws.Whole.{first_there, width_fits, bits_fit, other_length, tail_run, whole_inside, stray_tail, stray_inside, records_seen}
+use Rattle.accept.specs.Laws.Whole.{first_there, width_fits, bits_fit, other_length, tail_run, whole_inside, stray_tail, frame_told}
+use Rattle.accept.specs.Answers.{outcome_of}
 use Rattle.accept.proofs.accept.Goals as goal
 
 ruleset steps = (stands, first_there, width_fits, bits_fit, tail_run, whole_inside, rules)
 
-pub bounds-widths-0 : goal.bounds-widths-0
-bounds-widths-0 c = search steps
+pub width-width-requires : goal.width-width-requires
+width-width-requires c = search steps
 
 pub overflow_add-width : goal.overflow_add-width
 overflow_add-width c = search steps
 
 pub returns-then-len-width : goal.returns-then-len-width
 returns-then-len-width c = let a = c.args in
-    other_length c.requires.given c.requires.wide a.frame.now _ refl c.if-len-width.true
+    other_length c.requires.given c.requires.wide c.width-width.ensures a.frame.now _ refl c.if-len-width.true
 
 pub overflow_mul-len : goal.overflow_mul-len
 overflow_mul-len c = search steps
@@ -29,15 +30,12 @@ zeros_at-requires c = search steps
 
 pub returns-then-not-zeros_at : goal.returns-then-not-zeros_at
 returns-then-not-zeros_at c = let a = c.args in
-    stray_tail c.requires.given c.requires.wide a.frame.now _ refl c.if-len-width.false _ c.zeros_at.ensures (not_from_false _ c.if-not-zeros_at.true)
+    stray_tail c.requires.given c.requires.wide c.width-width.ensures a.frame.now _ refl c.if-len-width.false _ c.zeros_at.ensures (not_from_false _ c.if-not-zeros_at.true)
 
 pub see_record-requires : goal.see_record-requires
-see_record-requires c = let a = c.args in record { stands = stands c.requires.given; wide = c.requires.wide; inside = whole_inside c.requires.given c.requires.wide a.frame.now _ refl c.if-len-width.false; lefts_value = c.requires.lefts_value }
+see_record-requires c = let a = c.args in record { stands = stands c.requires.given; wide = c.requires.wide; inside = whole_inside c.requires.given c.requires.wide c.width-width.ensures a.frame.now _ refl c.if-len-width.false }
 
-pub returns-in-Stray : goal.returns-in-Stray
-returns-in-Stray c = let a = c.args in
-    stray_inside c.requires.given c.requires.wide a.frame.now _ refl c.if-len-width.false _ c.zeros_at.ensures (not_from_true _ c.if-not-zeros_at.false) _ c.see_record.ensures c.in-Stray.is
-
-pub returns-in-Of : goal.returns-in-Of
-returns-in-Of c = let a = c.args in
-    records_seen c.requires.given c.requires.wide a.frame.now _ refl c.if-len-width.false _ c.zeros_at.ensures (not_from_true _ c.if-not-zeros_at.false) _ c.see_record.ensures _ c.requires.lowered c.in-Of.is
+pub returns : goal.returns
+returns c = let a = c.args in
+    ap outcome_of c.ok_or.ensures.value
+    ∙ frame_told c.requires.given c.requires.wide c.width-width.ensures a.frame.now _ refl c.if-len-width.false _ c.zeros_at.ensures (not_from_true _ c.if-not-zeros_at.false) _ c.see_record.ensures c.requires.lowered

@@ -1,7 +1,7 @@
 -- The steps of the walk over a frame: a row part by part, a sum tag by tag, a list block by block.
 use Rattle.std.proofs.Math.Path.{◌≡◌, refl, ap}
 use Rattle.std.proofs.Common.{sym, ap₂, ◌∙◌, zero-add, suc-add}
-use Rattle.std.specs.Prelude.{Bool, not, length, get_or, take, drop}
+use Rattle.std.specs.Prelude.{Bool, not, length, get_or, take, drop, Option as Optional, Some, None}
 use Rattle.std.proofs.Math.Bool.{true, false}
 use mathlib.Core.List.{List, [], ◌∷◌}
 use Rattle.std.proofs.Math.Option.{Option, none, some}
@@ -10,7 +10,6 @@ use Rattle.std.proofs.Math.Nat.{two-pow-succ, one-le-pow}
 use Rattle.std.proofs.Math.Numerals.{sub-one}
 use native.Mathlib.Omega.{arith}
 use Rattle.num.specs.declared.NonZeroPow2Usize.{NonZeroPow2Usize}
-use Rattle.num.specs.declared.Bound.TheVariants as bounds
 use Rattle.num.specs.Powers.{bound, half_bound}
 use Rattle.num.specs.Laws.{bounded, bound_power, half_bound_two, half_bound_more}
 use Rattle.model.specs.Options.{any}
@@ -32,8 +31,6 @@ use Rattle.told.specs.Laws.Hops.{hops_add}
 use Rattle.told.specs.Laws.Rows.{after_is}
 use Rattle.told.specs.Laws.Trees.{given_one, right_given}
 use Rattle.rebuild.specs.Forms.{most_records}
-use Rattle.accept.specs.declared.Seen.{Seen}
-use Rattle.accept.specs.declared.Seen.TheVariants.{Of, Stray}
 use Rattle.accept.specs.Forms.{tag_at, choice_in, unless, plus, seen, types_in, row_width, seen_row, seen_choice, seen_sum, seen_block, seen_blocks, seen_list}
 use Rattle.accept.specs.Answers.{answer, count_of, both_of, Padded}
 use Rattle.accept.specs.Laws.Sums.{choice_one, choice_left, choice_right}
@@ -74,16 +71,16 @@ copies_bits d s p b zero fr bit h = refl
 copies_bits d s p b (suc n) fr bit h = ap₂ plus (b.same fr bit (omega arith)) (copies_bits d s p b n fr (bit + width (standing d s p)) (omega arith)) ∙ ap some (omega arith)
 
 -- all was seen of the n parts from p on but the last `left`, which stand from record q on and from the bit `here` on
-pub record Rowing (k : Parts) (d : ℕ) (s E : List ℕ) (n p : ℕ) (fr : List ℕ) (bit : ℕ) (all : Seen) (q here left : ℕ) : Type 0 where
+pub record Rowing (k : Parts) (d : ℕ) (s E : List ℕ) (n p : ℕ) (fr : List ℕ) (bit : ℕ) (all : Optional ℕ) (q here left : ℕ) : Type 0 where
   pub given : GivenParts k d s E left q
   pub inside : Inside fr here (row_width k d s left q)
   pub same : both_of all (answer (seen_row k d s left q fr here)) ≡ answer (seen_row k d s n p fr bit)
   pub small : count_of all ≤ most_records
 
-pub rowing_start : {k : Parts} {d : ℕ} {s E : List ℕ} {n p : ℕ} {fr : List ℕ} {bit : ℕ} → GivenParts k d s E n p → Inside fr bit (row_width k d s n p) → Rowing k d s E n p fr bit (Of 0) p bit n
+pub rowing_start : {k : Parts} {d : ℕ} {s E : List ℕ} {n p : ℕ} {fr : List ℕ} {bit : ℕ} → GivenParts k d s E n p → Inside fr bit (row_width k d s n p) → Rowing k d s E n p fr bit (Some 0) p bit n
 rowing_start {k} {d} {s} {E} {n} {p} {fr} {bit} g i = record { given = g; inside = i; same = none_first (seen_row k d s n p fr bit); small = omega arith }
 
-module _ {k : Parts} {d : ℕ} {s E : List ℕ} {n p : ℕ} {fr : List ℕ} {bit : ℕ} {all : Seen} {q here left : ℕ} (r : Rowing k d s E n p fr bit all q here left) where
+module _ {k : Parts} {d : ℕ} {s E : List ℕ} {n p : ℕ} {fr : List ℕ} {bit : ℕ} {all : Optional ℕ} {q here left : ℕ} (r : Rowing k d s E n p fr bit all q here left) where
   pub rowing_stands : 0 < left → Stands d s E q
   rowing_stands h = given_one r.given h
 
@@ -93,7 +90,7 @@ module _ {k : Parts} {d : ℕ} {s E : List ℕ} {n p : ℕ} {fr : List ℕ} {bit
   pub rowing_end : left ≤ 0 → all ≡ answer (seen_row k d s n p fr bit)
   rowing_end h = sym (none_last all r.small) ∙ ap (λ o. both_of all (answer o)) (sym (row_none k d s left q fr here h)) ∙ r.same
 
-  pub rowing_next : {W : List ℕ} (x y : Seen) (w next : ℕ) → 0 < left → Wide s E W → x ≡ answer (seen d s q fr here) → y ≡ both_of all x → w ≡ get_or W q 0 → next ≡ after_at k E q → Rowing k d s E n p fr bit y next (here + w) (left - 1)
+  pub rowing_next : {W : List ℕ} (x y : Optional ℕ) (w next : ℕ) → 0 < left → Wide s E W → x ≡ answer (seen d s q fr here) → y ≡ both_of all x → w ≡ get_or W q 0 → next ≡ after_at k E q → Rowing k d s E n p fr bit y next (here + w) (left - 1)
   rowing_next x y w next h u e f i j =
       let g = given_one r.given h in
       let a : w ≡ width (standing d s q) = i ∙ u.right d q g in
@@ -114,13 +111,13 @@ module _ {k : Parts} {d : ℕ} {s E : List ℕ} {n p : ℕ} {fr : List ℕ} {bit
         small = added all x y f r.small;
       })
     where
-      added : (a b c : Seen) → c ≡ both_of a b → count_of a ≤ most_records → count_of c ≤ most_records
+      added : (a b c : Optional ℕ) → c ≡ both_of a b → count_of a ≤ most_records → count_of c ≤ most_records
       added a b c e h = rw e (go a b)
         where
-          go : (a b : Seen) → count_of (both_of a b) ≤ most_records
-          go Stray b = omega arith
-          go (Of n) Stray = omega arith
-          go (Of n) (Of m) = omega arith
+          go : (a b : Optional ℕ) → count_of (both_of a b) ≤ most_records
+          go None b = omega arith
+          go (Some n) None = omega arith
+          go (Some n) (Some m) = omega arith
 
 -- SUMS
 
@@ -149,11 +146,11 @@ module _ (d : ℕ) (s E : List ℕ) (n p : ℕ) (fr : List ℕ) (bit end : ℕ) 
   clear_is : z ≡ not (any (bits_at fr (bit + width (standing d s p)) (end - (bit + width (standing d s p)))))
   clear_is = let a : last ≡ bit + width (standing d s p) = l ∙ ap (λ w. bit + w) (i ∙ u.right d p g) in c ∙ ap (λ q. not (any (bits_at fr q (end - q)))) a
 
-  pub choice_clear : (x : Seen) → z ≡ true → x ≡ answer (seen d s p fr bit) → x ≡ answer (seen_sum d s E n p fr bit end)
+  pub choice_clear : (x : Optional ℕ) → z ≡ true → x ≡ answer (seen d s p fr bit) → x ≡ answer (seen_sum d s E n p fr bit end)
   unfolding seen_choice
   choice_clear x t h = h ∙ ap answer (sym (sum_one d s E n p fr bit end e ∙ unless_clear (any (bits_at fr (bit + width (standing d s p)) (end - (bit + width (standing d s p))))) (seen d s p fr bit) (sym t ∙ clear_is)))
 
-  pub choice_stray : z ≡ false → Stray ≡ answer (seen_sum d s E n p fr bit end)
+  pub choice_stray : z ≡ false → None ≡ answer (seen_sum d s E n p fr bit end)
   unfolding seen_choice
   choice_stray t = ap answer (sym (sum_one d s E n p fr bit end e ∙ unless_stray (any (bits_at fr (bit + width (standing d s p)) (end - (bit + width (standing d s p))))) (seen d s p fr bit) (sym t ∙ clear_is)))
 
@@ -203,7 +200,7 @@ module _ {d : ℕ} {s E : List ℕ} {n few p : ℕ} (h : Shares n few) (g : Give
     pub right_padded : {q : ℕ} → q ≡ hops E few p → Padded d s (n - few) q fr (bit + 1) end
     right_padded e = let f = a.fits in rw e (record { fits = omega (arith, ap width split_type); inside = a.inside; small = a.small })
 
-module _ (d : ℕ) (s E : List ℕ) {n few : ℕ} (p : ℕ) (fr : List ℕ) (bit end : ℕ) (h : Shares n few) (z : Bool) (t : z ≡ tag_at fr bit) (x : Seen) where
+module _ (d : ℕ) (s E : List ℕ) {n few : ℕ} (p : ℕ) (fr : List ℕ) (bit end : ℕ) (h : Shares n few) (z : Bool) (t : z ≡ tag_at fr bit) (x : Optional ℕ) where
   pub sum_left : z ≡ false → x ≡ answer (seen_sum d s E few p fr (bit + 1) end) → x ≡ answer (seen_sum d s E n p fr bit end)
   unfolding seen_sum
   sum_left e i = let l = h.less in let m = h.some in i ∙ ap (λ (y : ℕ × ℕ). answer (seen_choice d s (hops E y.0 p) fr y.1 end)) (sym (choice_left fr bit n few h.split (omega arith) (sym t ∙ e)))
@@ -225,7 +222,7 @@ pub block_inside : (d : ℕ) (s : List ℕ) (n p : ℕ) (fr : List ℕ) (bit : �
 block_inside d s n p fr bit i = let e = copies_wide d s n p in let a = i.0 in let b = i.1 in (omega arith, omega arith)
 
 module _ (d : ℕ) (s E : List ℕ) (n p : ℕ) (fr : List ℕ) (bit : ℕ) (t : Bool) (h : t ≡ tag_at fr bit) where
-  pub block_some : (x : Seen) → t ≡ true → x ≡ answer (seen_row Copies d s n p fr (bit + 1)) → x ≡ answer (seen_block d s n p fr bit)
+  pub block_some : (x : Optional ℕ) → t ≡ true → x ≡ answer (seen_row Copies d s n p fr (bit + 1)) → x ≡ answer (seen_block d s n p fr bit)
   unfolding seen_block
   block_some x e i = go (tag_at fr bit) (sym h ∙ e)
     where
@@ -245,10 +242,10 @@ module _ (d : ℕ) (s E : List ℕ) (n p : ℕ) (fr : List ℕ) (bit : ℕ) (t :
         go false k = refl
         go true k = absurd (let z : ◌≡◌ {A = ℕ} 0 1 = cc in omega arith)
 
-    pub block_none : z ≡ true → Of 0 ≡ answer (seen_block d s n p fr bit)
+    pub block_none : z ≡ true → Some 0 ≡ answer (seen_block d s n p fr bit)
     block_none k = ap answer (sym (block_zeros ∙ unless_clear (any (bits_at fr (bit + 1) (n * width (standing d s p)))) (some 0) (sym k ∙ zeros_are)))
 
-    pub block_stray : z ≡ false → Stray ≡ answer (seen_block d s n p fr bit)
+    pub block_stray : z ≡ false → None ≡ answer (seen_block d s n p fr bit)
     block_stray k = ap answer (sym (block_zeros ∙ unless_stray (any (bits_at fr (bit + 1) (n * width (standing d s p)))) (some 0) (sym k ∙ zeros_are)))
 
 -- with the bound 2 a list is a block of 1
@@ -256,14 +253,14 @@ pub record Two (b : NonZeroPow2Usize) (d : ℕ) (s : List ℕ) (p : ℕ) : Type 
   pub wide : width (listed d s b p) ≡ 1 + 1 * width (standing d s p)
   pub same : (fr : List ℕ) (bit : ℕ) → seen_list d s b p fr bit ≡ seen_block d s 1 p fr bit
 
-pub list_two : {b : NonZeroPow2Usize} (d : ℕ) (s : List ℕ) (p : ℕ) → FairBound b → bounds.Not ≡ half_bound b.0 → Two b d s p
+pub list_two : {b : NonZeroPow2Usize} (d : ℕ) (s : List ℕ) (p : ℕ) → FairBound b → None ≡ half_bound b.0 → Two b d s p
 unfolding listed seen_list seen_blocks
 list_two {b} d s p f h = go f.exponent (power_of f)
   where
     go : (e : ℕ) → Power b e → Two b d s p
     go zero k = record { wide = rw k.log2 (width_partition_zero (standing d s p) ∙ omega arith); same = λ fr bit. rw k.log2 refl }
     go (suc e) k =
-        let m : half_bound b.0 ≡ bounds.Of (bound (2 ^ suc e)) = ap half_bound k.power ∙ sym (half_bound_more e) in
+        let m : half_bound b.0 ≡ Some (bound (2 ^ suc e)) = ap half_bound k.power ∙ sym (half_bound_more e) in
         let z : ◌≡◌ {A = ℕ} 0 1 = cc in absurd (omega arith)
 
 -- with a larger one it is a block of the half, and the list with that bound behind it
@@ -273,16 +270,16 @@ pub record Halved (b h : NonZeroPow2Usize) (d : ℕ) (s : List ℕ) (p : ℕ) : 
   pub wide : width (listed d s b p) ≡ 1 + h.0 * width (standing d s p) + width (listed d s h p)
   pub same : (fr : List ℕ) (bit : ℕ) → seen_list d s b p fr bit ≡ plus (seen_block d s h.0 p fr bit) (seen_list d s h p fr (bit + 1 + h.0 * width (standing d s p)))
 
-pub list_more : {b h : NonZeroPow2Usize} (d : ℕ) (s : List ℕ) (p : ℕ) → FairBound b → bounds.Of h ≡ half_bound b.0 → Halved b h d s p
+pub list_more : {b h : NonZeroPow2Usize} (d : ℕ) (s : List ℕ) (p : ℕ) → FairBound b → Some h ≡ half_bound b.0 → Halved b h d s p
 unfolding listed seen_list seen_blocks
 list_more {b} {h} d s p f q = go f.exponent (power_of f)
   where
     go : (e : ℕ) → Power b e → Halved b h d s p
     go zero k =
-        let m : half_bound b.0 ≡ bounds.Not = ap half_bound k.power ∙ sym half_bound_two in
+        let m : half_bound b.0 ≡ None = ap half_bound k.power ∙ sym half_bound_two in
         let z : ◌≡◌ {A = ℕ} 0 1 = cc in absurd (omega arith)
     go (suc e) k =
-        let m : half_bound b.0 ≡ bounds.Of (bound (2 ^ suc e)) = ap half_bound k.power ∙ sym (half_bound_more e) in
+        let m : half_bound b.0 ≡ Some (bound (2 ^ suc e)) = ap half_bound k.power ∙ sym (half_bound_more e) in
         let i : h ≡ bound (2 ^ suc e) = cc in
         let a = bound_power e (omega arith) in
         rw i (record {

@@ -1,10 +1,11 @@
 -- The whole frame: what the walk and the tests of length and tail answer is what the model's `unframe` says (rows 11 and 12).
-use Rattle.std.specs.Prelude.{◌≡◌, refl, Bool, true, false, not, ◌||◌, List, ℕ, ◌+◌, ◌-◌, ◌*◌, ◌/◌, ◌≤◌, ◌<◌, get_or, take, drop}
+use Rattle.std.specs.Prelude.{◌≡◌, refl, Bool, true, false, not, ◌||◌, List, ℕ, ◌+◌, ◌-◌, ◌*◌, ◌/◌, ◌≤◌, ◌<◌, get_or, take, drop, Option as Optional, Some, None, Ok, Err}
 use Rattle.std.proofs.Common.{sym, ◌∙◌, arith, Fits, length-take, length-drop, take_all, eq-eqb, ne_eqb}
 use Rattle.std.proofs.Math.Path.{ap}
 use Rattle.std.proofs.Math.Bool.{not-not}
 use Rattle.std.proofs.Math.Option.{Option, none, some}
 use Rattle.std.specs.Int.{w64}
+use Rattle.std.specs.Option.{ok_or}
 use Rattle.std.proofs.Math.ListN.{length}
 use Rattle.reply.specs.declared.Refusal.TheVariants.{FrameLength, StrayBit}
 use Rattle.model.specs.Numbers.{frame_length, stray_bit, most_shape_records}
@@ -40,9 +41,6 @@ use Rattle.rebuild.specs.Forms.{most_records}
 use Rattle.rebuild.specs.Laws.Few.{few_records}
 use Rattle.rebuild.specs.Laws.Model.{value_records_reconstruct}
 use Rattle.rebuild.specs.Laws.Model as model
-use Rattle.accept.specs.declared.Seen.{Seen}
-use Rattle.accept.specs.declared.Seen.TheVariants.{Of, Stray}
-use Rattle.accept.specs.declared.Accepted.TheVariants.{Records, Refused}
 use Rattle.accept.specs.Forms.{place, shape_at, stray_at, unless, seen}
 use Rattle.accept.specs.Answers.{cut, answer, count_of, Lowered, accepted, outcome_of}
 use Rattle.accept.specs.Laws.Bits.{any_both}
@@ -137,62 +135,73 @@ module _ {s E W : List ℕ} (g : Given 32 false s E 0) (u : Wide s E W) where
         (value_records_reconstruct (type_in s) (shape_file tree_of) tree_of (shape_read_written tree_of few_shape) ∙ ap (model.known (type_in s) (surplus (type_in s) tree_of)) e)
 
     -- so what was counted is exact
-    counted : (k : ℕ) → Of k ≡ answer (seen 32 s 0 fr 0) → outcome (seen 32 s 0 fr 0) ≡ done k
+    counted : (k : ℕ) → Some k ≡ answer (seen 32 s 0 fr 0) → outcome (seen 32 s 0 fr 0) ≡ done k
     counted k e = rw (whole_seen fr) (go (any (padding place (lower (type_in s)) own)) (reconstruct (type_in s) tree_of) few_value (e ∙ ap answer (whole_seen fr)))
       where
-        go : (a : Bool) (o : Option (Value (type_in s))) → ((v : Value (type_in s)) → o ≡ some v → length (encode (type_in s) v) ≤ most_records) → Of k ≡ answer (unless a (map_o (λ v. length (encode (type_in s) v)) o)) → outcome (unless a (map_o (λ v. length (encode (type_in s) v)) o)) ≡ done k
+        go : (a : Bool) (o : Option (Value (type_in s))) → ((v : Value (type_in s)) → o ≡ some v → length (encode (type_in s) v) ≤ most_records) → Some k ≡ answer (unless a (map_o (λ v. length (encode (type_in s) v)) o)) → outcome (unless a (map_o (λ v. length (encode (type_in s) v)) o)) ≡ done k
         go true o f e = absurd (let z : ◌≡◌ {A = ℕ} 0 1 = cc in omega arith)
         go false none f e = absurd (let z : ◌≡◌ {A = ℕ} 0 1 = cc in omega arith)
         go false (some v) f e = let i : k ≡ cut (length (encode (type_in s) v)) = ap count_of e in ap done (omega (arith, f v refl))
 
-  -- AS THE CODE ASKS IT: n is the frame's length
+  -- AS THE CODE ASKS IT: w is the width that the table tells of the first record, n is the frame's length
 
   pub first_there : 0 < length W
   first_there = width_there (stands g) u
 
-  pub width_fits : Fits w64 (get_or W 0 0 + 7)
-  width_fits = let l = u.small 32 0 (stands g) in omega arith
+  module _ {w : ℕ} (a : w ≡ get_or W 0 0) where
+    wide_is : w ≡ width (lower (type_in s))
+    wide_is = a ∙ whole_width
 
-  pub bits_fit : (n : ℕ) → n ≡ (get_or W 0 0 + 7) / 8 → Fits w64 (n * 8)
-  bits_fit n e = let l = u.small 32 0 (stands g) in omega arith
+    pub width_fits : Fits w64 (w + 7)
+    width_fits = let l = u.small 32 0 (stands g) in omega (arith, a)
 
-  module _ (fr : List ℕ) (n : ℕ) (h : n ≡ length fr) where
-    pub other_length : (n ≡ (get_or W 0 0 + 7) / 8 → ⊥) → outcome_of (Refused FrameLength) ≡ accepted (type_in s) fr
-    other_length f = wrong_length (type_in s) fr (λ e. f (h ∙ e ∙ ap bytes_for (sym whole_width)))
+    pub bits_fit : (n : ℕ) → n ≡ (w + 7) / 8 → Fits w64 (n * 8)
+    bits_fit n e = let l = u.small 32 0 (stands g) in omega (arith, a)
 
-    module _ (e : n ≡ (get_or W 0 0 + 7) / 8) where
-      same_length : length fr ≡ bytes_for (width (lower (type_in s)))
-      same_length = sym h ∙ e ∙ ap bytes_for whole_width
+    module _ (fr : List ℕ) (n : ℕ) (h : n ≡ length fr) where
+      pub other_length : (n ≡ (w + 7) / 8 → ⊥) → outcome_of (Err FrameLength) ≡ accepted (type_in s) fr
+      other_length f = wrong_length (type_in s) fr (λ e. f (h ∙ e ∙ ap bytes_for (sym wide_is)))
 
-      pub tail_run : Inside fr (get_or W 0 0) (n * 8 - get_or W 0 0)
-      tail_run = let l = u.small 32 0 (stands g) in (omega arith, omega arith)
+      module _ (e : n ≡ (w + 7) / 8) where
+        same_length : length fr ≡ bytes_for (width (lower (type_in s)))
+        same_length = sym h ∙ e ∙ ap bytes_for wide_is
 
-      pub whole_inside : Inside fr 0 (width (standing 32 s 0))
-      whole_inside = let l = u.small 32 0 (stands g) in let w = u.right 32 0 (stands g) in (omega arith, omega arith)
+        pub tail_run : Inside fr w (n * 8 - w)
+        tail_run = let l = u.small 32 0 (stands g) in (omega (arith, a), omega (arith, a))
 
-      module _ (z : Bool) (c : z ≡ not (any (bits_at fr (get_or W 0 0) (n * 8 - get_or W 0 0)))) where
-        tail_is : z ≡ not (tail (type_in s) fr same_length)
-        tail_is =
-            let w = width (lower (type_in s)) in
-            let i : length (drop w (bits_of fr)) ≤ n * 8 - w = omega (arith, length-drop w (bits_of fr), length_bits_of fr) in
-            c ∙ ap (λ w. not (any (bits_at fr w (n * 8 - w)))) whole_width ∙ ap (λ l. not (any l)) (take_all (n * 8 - w) (drop w (bits_of fr)) i)
+        pub whole_inside : Inside fr 0 (width (standing 32 s 0))
+        whole_inside = let l = u.small 32 0 (stands g) in let w = u.right 32 0 (stands g) in (omega (arith, a), omega (arith, a))
 
-        tail_was : (x : Bool) → not z ≡ x → tail (type_in s) fr same_length ≡ x
-        tail_was x k = sym (not-not (tail (type_in s) fr same_length)) ∙ ap not (sym tail_is) ∙ k
+        module _ (z : Bool) (c : z ≡ not (any (bits_at fr w (n * 8 - w)))) where
+          tail_is : z ≡ not (tail (type_in s) fr same_length)
+          tail_is =
+              let w = width (lower (type_in s)) in
+              let i : length (drop w (bits_of fr)) ≤ n * 8 - w = omega (arith, length-drop w (bits_of fr), length_bits_of fr) in
+              c ∙ ap (λ w. not (any (bits_at fr w (n * 8 - w)))) wide_is ∙ ap (λ l. not (any l)) (take_all (n * 8 - w) (drop w (bits_of fr)) i)
 
-        pub stray_tail : not z ≡ true → outcome_of (Refused StrayBit) ≡ accepted (type_in s) fr
-        stray_tail k = tail_stray (type_in s) fr same_length (tail_was true k)
+          tail_was : (x : Bool) → not z ≡ x → tail (type_in s) fr same_length ≡ x
+          tail_was x k = sym (not-not (tail (type_in s) fr same_length)) ∙ ap not (sym tail_is) ∙ k
 
-        module _ (k : not z ≡ false) (x : Seen) (i : x ≡ answer (seen 32 s 0 fr 0)) where
-          said_is : accepted (type_in s) fr ≡ outcome (seen 32 s 0 fr 0)
-          said_is = tail_clear (type_in s) fr same_length (tail_was false k) ∙ ap outcome (sym (whole_seen fr))
+          pub stray_tail : not z ≡ true → outcome_of (Err StrayBit) ≡ accepted (type_in s) fr
+          stray_tail k = tail_stray (type_in s) fr same_length (tail_was true k)
 
-          pub stray_inside : x ≡ Stray → outcome_of (Refused StrayBit) ≡ accepted (type_in s) fr
-          stray_inside j = sym (said_is ∙ go (seen 32 s 0 fr 0) (sym j ∙ i))
-            where
-              go : (o : Option ℕ) → Stray ≡ answer o → outcome o ≡ refused stray_bit
-              go none e = refl
-              go (some m) e = absurd (let z : ◌≡◌ {A = ℕ} 0 1 = cc in omega arith)
+          module _ (k : not z ≡ false) (x : Optional ℕ) (i : x ≡ answer (seen 32 s 0 fr 0)) where
+            said_is : accepted (type_in s) fr ≡ outcome (seen 32 s 0 fr 0)
+            said_is = tail_clear (type_in s) fr same_length (tail_was false k) ∙ ap outcome (sym (whole_seen fr))
 
-          pub records_seen : (m : ℕ) → Lowered s → x ≡ Of m → outcome_of (Records m) ≡ accepted (type_in s) fr
-          records_seen m l j = sym (said_is ∙ counted l fr same_length m (sym j ∙ i))
+            pub stray_inside : x ≡ None → outcome_of (Err StrayBit) ≡ accepted (type_in s) fr
+            stray_inside j = sym (said_is ∙ go (seen 32 s 0 fr 0) (sym j ∙ i))
+              where
+                go : (o : Option ℕ) → None ≡ answer o → outcome o ≡ refused stray_bit
+                go none e = refl
+                go (some m) e = absurd (let z : ◌≡◌ {A = ℕ} 0 1 = cc in omega (arith, a))
+
+            pub records_seen : (m : ℕ) → Lowered s → x ≡ Some m → outcome_of (Ok m) ≡ accepted (type_in s) fr
+            records_seen m l j = sym (said_is ∙ counted l fr same_length m (sym j ∙ i))
+
+            pub frame_told : Lowered s → outcome_of (ok_or x StrayBit) ≡ accepted (type_in s) fr
+            frame_told l = go x refl
+              where
+                go : (y : Optional ℕ) → x ≡ y → outcome_of (ok_or y StrayBit) ≡ accepted (type_in s) fr
+                go None j = stray_inside j
+                go (Some m) j = records_seen m l j

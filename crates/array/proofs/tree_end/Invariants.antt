@@ -1,5 +1,5 @@
 -- The records from i on, with the trees that are due, close where the whole does. Each record makes one tree more due at most,
--- so the count of them never passes i. The measure is how many records are left.
+-- so the count of them never passes i.
 use mathlib.Core.Path.{◌≡◌}
 use mathlib.Core.List.{List}
 use Prim.Native.Nat.{ℕ, ◌-◌, ◌≤◌}
@@ -13,6 +13,3 @@ pub record Closing (s : List ℕ) (at due i : ℕ) : Type 0 where
 
 abbrev pub invariant-loop-i : goal.invariant-loop-i
 invariant-loop-i l = Closing l.shape l.at l.due l.i
-
-abbrev pub decreases-loop-i : goal.decreases-loop-i
-decreases-loop-i l = length l.shape - l.i

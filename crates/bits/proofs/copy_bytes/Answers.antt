@@ -7,7 +7,5 @@ use Rattle.bits.proofs.copy_bytes.Goals as goal
 
 pub loop-i-preserved : goal.loop-i-preserved
 loop-i-preserved c = let a = c.args in
-    let t = c.loop-i in (
-      omega arith,
-      wrote_same (wrote_next t.i _ t.invariant.1 (length_bits_at a.src.now a.from (8 * t.i) (omega arith)) (omega arith) (omega arith)) (bytes_next a.src.now a.from t.i (omega arith) (omega arith)),
-    )
+    let t = c.loop-i in
+    wrote_same (wrote_next t.i _ t.invariant (length_bits_at a.src.now a.from (8 * t.i) (omega arith)) (omega arith) (omega arith)) (bytes_next a.src.now a.from t.i (omega arith) (omega arith))

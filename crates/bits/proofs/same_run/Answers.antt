@@ -1,4 +1,4 @@
-use mathlib.Core.Path.{◌≡◌, sym, ap, ◌∙◌}
+use mathlib.Core.Path.{◌≡◌, refl, sym, ap, ◌∙◌}
 use Prim.Native.Nat.{◌+◌, ◌-◌}
 use native.Mathlib.Omega.{arith}
 use Rattle.bits.specs.Bits.{bits_at}
@@ -6,18 +6,18 @@ use Rattle.bits.specs.Laws.Runs.{alike_behind, behind_alike}
 use Rattle.bits.proofs.same_run.Goals as goal
 
 -- a step met bits that differ
-pub returns-then-k-eq0 : goal.returns-then-k-eq0
-returns-then-k-eq0 c = let a = c.args in
+pub returns-in-None : goal.returns-in-None
+returns-in-None c = let a = c.args in
     let t = c.loop-i in
     let e : a.n ≡ t.i + (a.n - t.i) = omega arith in
     record {
       most = t.invariant.0;
       same = t.invariant.1;
-      other = λ _ h. c.same_step-k.ensures.other c.if-k-eq0.true (behind_alike a.s.now a.at a.other.now a.from t.i (a.n - t.i) (omega arith) (omega arith) (ap (bits_at a.s.now a.at) (sym e) ∙ h ∙ ap (bits_at a.other.now a.from) e));
+      other = λ _ h. c.in-None.ensures.other refl (behind_alike a.s.now a.at a.other.now a.from t.i (a.n - t.i) (omega arith) (omega arith) (ap (bits_at a.s.now a.at) (sym e) ∙ h ∙ ap (bits_at a.other.now a.from) e));
     }
 
 pub loop-i-preserved : goal.loop-i-preserved
 loop-i-preserved c = let a = c.args in
     let t = c.loop-i in
-    let z = c.same_step-k in
-    (omega arith, alike_behind a.s.now a.at a.other.now a.from t.i z.result t.invariant.1 z.ensures.same)
+    let s = c.in-Some in
+    (omega (arith, s.ensures.1.most), alike_behind a.s.now a.at a.other.now a.from t.i s.k t.invariant.1 s.ensures.1.same)

@@ -1,6 +1,7 @@
 -- A bit that differs decides, and bytes that differ have one. Assumes nothing.
 use mathlib.Core.Path.{sym, ◌∙◌}
 use native.Mathlib.Omega.{arith}
+use Rattle.std.proofs.lemmas.Bool.Decides.{nat_tests}
 use Rattle.bits.specs.Laws.Runs.{alike, unlike, alike_one, byte_alike}
 use Rattle.bits.proofs.same_step.Goals as goal
 
@@ -8,19 +9,13 @@ pub returns-then-get_bit : goal.returns-then-get_bit
 returns-then-get_bit c =
     let a = c.args in
     let one = alike_one a.s.now a.at a.other.now a.from (omega arith) (omega arith) in
-    unlike 1 (omega arith) (λ e. let h = one.0 e in cc)
-
-pub returns-then-bit-2 : goal.returns-then-bit-2
-returns-then-bit-2 c =
-    let a = c.args in
-    let one = alike_one a.s.now a.at a.other.now a.from (omega arith) (omega arith) in
-    unlike 1 (omega arith) (λ e. let h = one.0 e in cc)
+    unlike 1 (omega arith) (λ e. let h = one.0 e in grind (arith, nat_tests))
 
 pub returns-then-n-lt8 : goal.returns-then-n-lt8
 returns-then-n-lt8 c =
     let a = c.args in
     let one = alike_one a.s.now a.at a.other.now a.from (omega arith) (omega arith) in
-    alike 1 (omega arith) (omega arith) (one.1 (cc))
+    (omega arith, alike 1 (omega arith) (omega arith) (one.1 (grind (arith, nat_tests))))
 
 pub returns-then-get_byte : goal.returns-then-get_byte
 returns-then-get_byte c =

@@ -1,19 +1,20 @@
-use mathlib.Core.Path.{sym, ap, ◌∙◌}
-use mathlib.Core.Bool.{false}
-use Prim.Native.Nat.{◌+◌, ◌*◌, ◌/◌}
-use lib.ListN.{get_or}
-use Rattle.model.specs.Options.{any}
-use Rattle.model.specs.Bytes.{byte_bits}
-use Rattle.bits.specs.Bits.{bits_at}
-use Rattle.bits.specs.Laws.Places.{bytes_next}
-use Rattle.bits.specs.Laws.Runs.{any_behind}
+-- The bytes before the first that is not 0 are zeros, and so are their bits.
+use mathlib.Core.Path.{◌≡◌, ap, ◌∙◌}
+use Prim.Native.Nat.{◌+◌, ◌-◌, ◌/◌}
+use lib.ListN.{take, drop}
 use native.Mathlib.Omega.{arith}
+use borrow.Author.Rules.{rules}
+use borrow.Author.Tests.{tests}
+use Rattle.std.proofs.lemmas.Iterator.{YieldsList-from_slice, IsFirst-from_position}
+use Rattle.bits.specs.Laws.Places.{zero_before}
 use Rattle.bits.proofs.scan_bytes.Goals as goal
 
-pub loop-i-preserved : goal.loop-i-preserved
-unfolding byte_bits
-loop-i-preserved c = let a = c.args in
-    let t = c.loop-i in (
-      omega arith,
-      ap any (sym (bytes_next a.s.now a.at t.i (omega arith) (omega arith))) ∙ any_behind (bits_at a.s.now a.at (8 * t.i)) (byte_bits (get_or a.s.now (a.at / 8 + t.i) 0)) t.invariant.1 ∙ ap (λ b. any (byte_bits b)) c.if-s-first-ne0.false,
-    )
+pub returns : goal.returns
+returns c =
+    let a = c.args in
+    let k = a.n / 8 in
+    let q : a.at / 8 + k - a.at / 8 ≡ k = omega arith in
+    let part = take k (drop (a.at / 8) a.s.now) in
+    let f = IsFirst-from_position _ _ c.position-found.result (λ x. x ≡ 0 → ⊥) (λ x. x ≡ 0) c.position-found.ensures.ran (YieldsList-from_slice part (c.iter.ensures.rest ∙ ap (λ k. take k (drop (a.at / 8) a.s.now)) q)) (λ x q k. search (rules, tests)) (λ x q k. search (rules, tests)) in
+    let z = zero_before a.s.now a.at k (omega arith) (omega arith) c.position-found.result f in
+    rw c.unwrap_or.ensures (omega (arith, z.0), z.1)

@@ -12,7 +12,7 @@ returns-then-get_bit c = let a = c.args in
 
 pub returns-then-get_byte-eq0 : goal.returns-then-get_byte-eq0
 unfolding byte_bits
-returns-then-get_byte-eq0 c = seen 8 (omega arith) (omega arith) (ap any (sym c.get_byte.ensures ∙ ap byte_bits c.if-get_byte-eq0.true))
+returns-then-get_byte-eq0 c = (omega arith, seen 8 (omega arith) (omega arith) (ap any (sym c.get_byte.ensures ∙ ap byte_bits c.if-get_byte-eq0.true)))
 
 pub returns : goal.returns
 returns c = let b = c.get_byte in stopped 8 (omega arith) (ap any (sym b.ensures) ∙ byte_any b.result b.type_inv c.if-get_byte-eq0.false)

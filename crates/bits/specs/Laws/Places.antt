@@ -1,18 +1,25 @@
 -- A bit's place is bit at % 8 of byte at / 8: what one byte, or two neighbours, hold there is what the slice holds at bit `at`.
-use Rattle.std.specs.Prelude.{◌≡◌, refl, Bool, true, false, ◌≢◌, ℕ, suc, ◌+◌, ◌-◌, ◌*◌, ◌/◌, ◌%◌, ◌^◌, ◌≤◌, ◌<◌, eqb, drop, set}
+use Rattle.std.specs.Prelude.{◌≡◌, refl, Bool, true, false, ◌≢◌, ℕ, zero, suc, ◌+◌, ◌-◌, ◌*◌, ◌/◌, ◌%◌, ◌^◌, ◌≤◌, ◌<◌, eqb, drop, set, Option as Optional, Some, None, MatchOption, unwrap_or}
 use Rattle.std.proofs.Math.Path.{sym, ap, ap₂}
-use Rattle.std.proofs.Common.{subst, subst₂, ◌∙◌, add-zero, lit<, length-set, drop-cons, get_or-drop, get_or-take}
-use mathlib.Core.List.{List, [], ◌∷◌, ◌++◌, append-nil}
+use Rattle.std.proofs.Common.{subst, subst₂, ◌∙◌, add-zero, lit<, length-set, length-take, length-drop, drop-cons, take-take, get_or-drop, get_or-take}
+use mathlib.Core.List.{List, [], ◌∷◌, ◌++◌, append-nil, append_assoc}
 use Rattle.std.proofs.Math.Numerals.{add-one}
 use native.Mathlib.Omega.{arith}
 use Rattle.std.specs.Int.Bits.{bit_and, bit_or}
-use Rattle.std.proofs.Math.ListN.{length, take, get_or}
-use Rattle.model.specs.Bytes.{byte_bits, bits_of}
+use Rattle.std.proofs.Math.ListN.{length, take, get_or, replicate}
+use Rattle.std.specs.List.{AllWithin, HoldsAt}
+use Rattle.std.proofs.lemmas.List.{replicate-append-replicate}
+use Rattle.std.proofs.lemmas.List.Edits.{paste_all}
+use Rattle.std.proofs.lemmas.Slice.{put_mid-paste}
+use borrow.Rule.Slice.PartMut.{put_mid}
+use Rattle.model.specs.Options.{any}
+use Rattle.model.proofs.Laws.Frames.{any_zeros}
+use Rattle.model.specs.Bytes.{byte_bits, bits_of, zeros}
 use Rattle.bits.specs.Bits.{splice, bits_at, Wrote}
-use Rattle.bits.specs.Laws.Splice.{splice_one, splice_then}
+use Rattle.bits.specs.Laws.Splice.{length_splice, splice_one, splice_then}
 use Rattle.bits.specs.Laws.Writing.{wrote_then}
 use Rattle.bits.specs.Laws.Byte.{bit_of, bit_set, bit_cleared, byte_read, byte_put}
-use Rattle.bits.specs.Laws.Window.{bits_within, wrote_within}
+use Rattle.bits.specs.Laws.Window.{bits_of_splice, window_bits, bits_within, wrote_within}
 use Rattle.bits.specs.Laws.Runs.{bits_at_add}
 
 -- ONE BYTE AND TWO, in a list
@@ -105,3 +112,55 @@ bytes_next d at i z h =
     let q : (at + 8 * i) / 8 ≡ at / 8 + i = omega arith in
     let e : 8 * i + 8 ≡ 8 * (i + 1) = omega arith in
     ap (λ x. bits_at d at (8 * i) ++ x) (ap (λ k. byte_bits (get_or d k 0)) (sym q) ∙ byte_aligned d (at + 8 * i) h (omega arith)) ∙ sym (bits_at_add d at (8 * i) 8) ∙ ap (bits_at d at) e
+
+-- ALL BYTES AT ONCE, from a byte's first bit on
+
+module _ (d : List ℕ) (at : ℕ) (z : at % 8 ≡ 0) where
+  first_bit : 8 * (at / 8) ≡ at
+  first_bit = omega arith
+
+  -- the bits of k bytes
+  pub bytes_at : (k : ℕ) → at + 8 * k ≤ 8 * length d → bits_at d at (8 * k) ≡ bits_of (take k (drop (at / 8) d))
+  bytes_at k h = ap (λ n. bits_at d n (8 * k)) (sym first_bit) ∙ sym (window_bits d (at / 8) k (omega arith))
+
+  -- k bytes that are put
+  pub wrote_bytes : (k : ℕ) (x : List ℕ) → length x ≡ k → at + 8 * k ≤ 8 * length d → Wrote d at (bits_of x) (put_mid (at / 8) k d x)
+  wrote_bytes k x n h =
+      subst (Wrote d at (bits_of x)) (append_assoc (take (at / 8) d) x (drop (at / 8 + length x) d) ∙ sym (put_mid-paste (at / 8) k d x x k refl refl (sym n) ∙ paste_all d (at / 8) x k (sym n) ∙ ap (λ m. take (at / 8) d ++ (x ++ drop (at / 8 + m) d)) (sym n)))
+      (record {
+        same = length_splice d (at / 8) x (omega arith);
+        bits = bits_of_splice d (at / 8) x ∙ ap (λ n. splice (bits_of d) n (bits_of x)) first_bit;
+      })
+
+-- BYTES THAT ARE 0
+
+pub zero_bytes : (k : ℕ) → bits_of (replicate k 0) ≡ zeros (8 * k)
+unfolding bits_of byte_bits
+zero_bytes zero = refl
+zero_bytes (suc k) =
+    let e : 8 + 8 * k ≡ 8 * suc k = omega arith in
+    ap (λ x. byte_bits 0 ++ x) (zero_bytes k) ∙ replicate-append-replicate 8 (8 * k) false ∙ ap zeros e
+
+zero_front : (i : ℕ) (l : List ℕ) → i ≤ length l → AllWithin (λ x. x ≡ 0) l 0 i → take i l ≡ replicate i 0
+zero_front zero l q h = refl
+zero_front (suc i) [] q h = absurd (omega arith)
+zero_front (suc i) (b ∷ l) q h = ap₂ ◌∷◌ (h 0 0 (omega arith) (omega arith)) (zero_front i l (omega arith) (λ k d _ p. h (suc k) d (omega arith) (omega arith)))
+
+module _ (d : List ℕ) (at k : ℕ) (z : at % 8 ≡ 0) (h : at + 8 * k ≤ 8 * length d) where
+  abbrev whole : List ℕ
+  whole = take k (drop (at / 8) d)
+
+  abbrev Found : Optional ℕ → Type 0
+  Found r = MatchOption r (AllWithin (λ x. x ≡ 0) whole 0 (length whole)) (λ i. (i < length whole) × HoldsAt (λ x. x ≡ 0 → ⊥) whole i × AllWithin (λ x. x ≡ 0) whole 0 i)
+
+  length_whole : length whole ≡ k
+  length_whole = simp (length-take, length-drop) (omega arith)
+
+  zero_in_front : (i : ℕ) → i ≤ k → AllWithin (λ x. x ≡ 0) whole 0 i → any (bits_at d at (8 * i)) ≡ false
+  zero_in_front i q f =
+      ap any (bytes_at d at z i (omega arith) ∙ ap bits_of (sym (take-take i k (drop (at / 8) d) q) ∙ zero_front i whole (omega (arith, length_whole)) f) ∙ zero_bytes i) ∙ any_zeros (8 * i)
+
+  -- the bits before the first of k bytes that is not 0, or of all k where there is none, are zeros
+  pub zero_before : (r : Optional ℕ) → Found r → (unwrap_or r k ≤ k) × (any (bits_at d at (8 * unwrap_or r k)) ≡ false)
+  zero_before None f = (omega arith, zero_in_front k (omega arith) (rw length_whole at f))
+  zero_before (Some i) f = (omega (arith, length_whole, f.0), zero_in_front i (omega (arith, length_whole, f.0)) f.2)

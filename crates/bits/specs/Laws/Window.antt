@@ -26,7 +26,7 @@ bits_of_drop zero l = refl
 bits_of_drop (suc k) [] = sym (drop-nil (8 * suc k))
 bits_of_drop (suc k) (b ∷ l) = bits_of_drop k l ∙ sym (ap (λ n. drop n (byte_bits b ++ bits_of l)) (eight_more k) ∙ drop-append-add (byte_bits b) (bits_of l) (8 * k))
 
-bits_of_splice : (d : List ℕ) (i : ℕ) (new : List ℕ) → bits_of (splice d i new) ≡ splice (bits_of d) (8 * i) (bits_of new)
+pub bits_of_splice : (d : List ℕ) (i : ℕ) (new : List ℕ) → bits_of (splice d i new) ≡ splice (bits_of d) (8 * i) (bits_of new)
 bits_of_splice d i new =
     let e : 8 * (i + length new) ≡ 8 * i + length (bits_of new) = omega (arith, length_bits_of new) in
     bits_of_append (take i d ++ new) (drop (i + length new) d)
@@ -35,7 +35,7 @@ bits_of_splice d i new =
 -- A WINDOW
 
 module _ (d : List ℕ) (i m : ℕ) (h : i + m ≤ length d) where
-  window_bits : bits_of (take m (drop i d)) ≡ bits_at d (8 * i) (8 * m)
+  pub window_bits : bits_of (take m (drop i d)) ≡ bits_at d (8 * i) (8 * m)
   window_bits = bits_of_take m (drop i d) ∙ ap (take (8 * m)) (bits_of_drop i d)
 
   length_window : length (bits_of (take m (drop i d))) ≡ 8 * m

@@ -6,7 +6,7 @@ use Rattle.both_orders.specs.Laws.{refusal_fits}
 use Rattle.both_orders.proofs.edit_part.Goals as goal
 
 pub slice_bounds-line-end : goal.slice_bounds-line-end
-slice_bounds-line-end g c = (wrote_counts (refusal_fits c.in-Refused.x (replicate 12 0) (length-replicate {A = ℕ} 12 0)) c.write_refused-k.ensures).0
+slice_bounds-line-end g c = (wrote_counts (refusal_fits c.in-Err.x (replicate 12 0) (length-replicate {A = ℕ} 12 0)) c.write_refused-k.ensures).0
 
 pub slice_bounds-write_all-end : goal.slice_bounds-write_all-end
-slice_bounds-write_all-end g c = (wrote_counts (refusal_fits c.in-Refused.x (replicate 12 0) (length-replicate {A = ℕ} 12 0)) c.write_refused-k.ensures).1
+slice_bounds-write_all-end g c = (wrote_counts (refusal_fits c.in-Err.x (replicate 12 0) (length-replicate {A = ℕ} 12 0)) c.write_refused-k.ensures).1

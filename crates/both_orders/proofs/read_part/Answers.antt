@@ -3,4 +3,4 @@ use Rattle.both_orders.specs.Laws.{part_counts}
 use Rattle.both_orders.proofs.read_part.Goals as goal
 
 pub returns : goal.returns
-returns c = part_counts _ _ _ _ _ c.part_read.result _ c.part_read.ensures c.length_of.ensures
+returns c = rw c.unwrap_or.ensures (part_counts _ _ _ _ _ _ c.part_read.ensures)

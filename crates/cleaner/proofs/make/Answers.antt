@@ -2,14 +2,14 @@
 use Rattle.cleaner.specs.Laws.{made_shape, shape_counts, made_line, line_counts}
 use Rattle.cleaner.proofs.make.Goals as goal
 
-pub returns-in-Done-clause-out_after : goal.returns-in-Done-clause-out_after
-returns-in-Done-clause-out_after c = made_shape _ _ _ _ _ c.requires c.clean_shape.ensures _ c.in-Done.is
+pub returns-in-Ok-clause-out_after : goal.returns-in-Ok-clause-out_after
+returns-in-Ok-clause-out_after c = made_shape _ _ _ _ _ c.requires c.clean_shape.ensures _ c.in-Ok.is
 
-pub returns-in-Done-clause-prefix_len : goal.returns-in-Done-clause-prefix_len
-returns-in-Done-clause-prefix_len c = shape_counts _ _ _ _ _ c.requires c.clean_shape.ensures _ c.in-Done.is
+pub returns-in-Ok-clause-prefix_len : goal.returns-in-Ok-clause-prefix_len
+returns-in-Ok-clause-prefix_len c = shape_counts _ _ _ _ _ c.requires c.clean_shape.ensures _ c.in-Ok.is
 
-pub returns-in-Refused-clause-out_after : goal.returns-in-Refused-clause-out_after
-returns-in-Refused-clause-out_after c = made_line _ _ _ _ _ c.requires c.clean_shape.ensures _ c.in-Refused.is _ _ c.write_refused.ensures
+pub returns-in-Err-clause-out_after : goal.returns-in-Err-clause-out_after
+returns-in-Err-clause-out_after c = made_line _ _ _ _ _ c.requires c.clean_shape.ensures _ c.in-Err.is _ _ c.write_refused.ensures
 
-pub returns-in-Refused-clause-prefix_len : goal.returns-in-Refused-clause-prefix_len
-returns-in-Refused-clause-prefix_len c = line_counts _ _ _ _ _ c.requires c.clean_shape.ensures _ c.in-Refused.is _ _ c.write_refused.ensures
+pub returns-in-Err-clause-prefix_len : goal.returns-in-Err-clause-prefix_len
+returns-in-Err-clause-prefix_len c = line_counts _ _ _ _ _ c.requires c.clean_shape.ensures _ c.in-Err.is _ _ c.write_refused.ensures

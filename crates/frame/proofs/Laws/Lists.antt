@@ -1,10 +1,9 @@
 -- The frame of a list: with the bound 2 a block, else the block of half the bound and the list with that bound; a block is its tag, then its elements or zeros.
-use Rattle.std.specs.Prelude.{◌≡◌, refl, Bool, true, false, List, ◌∷◌, ◌++◌, ◌⊎◌, ℕ, zero, suc, ◌-◌, ◌*◌, ◌≤◌, ◌<◌, ltb}
+use Rattle.std.specs.Prelude.{◌≡◌, refl, Bool, true, false, List, ◌∷◌, ◌++◌, ◌⊎◌, ℕ, zero, suc, ◌-◌, ◌*◌, ◌≤◌, ◌<◌, ltb, Some, None}
 use Rattle.std.proofs.Math.Path.{ap, ap₂}
 use Rattle.std.proofs.Common.{◌∙◌, append-nil, inl, inr, arith}
 use Rattle.std.proofs.Math.Option.{none, some}
 use Rattle.num.specs.declared.NonZeroPow2Usize.{NonZeroPow2Usize}
-use Rattle.num.specs.declared.Bound.TheVariants as bounds
 use Rattle.num.specs.Powers.{half_bound}
 use Rattle.num.specs.Laws.{half_bound_more}
 use Rattle.model.specs.Options.{pick, map_o}
@@ -55,7 +54,7 @@ module _ (d : ℕ) (s val : List ℕ) where
 
   -- LISTS
 
-  pub list_block : {b : NonZeroPow2Usize} (m p v : ℕ) → FairBound b → bounds.Not ≡ half_bound b.0 → listed d s val b m p v ≡ block d s val 1 m p v
+  pub list_block : {b : NonZeroPow2Usize} (m p v : ℕ) → FairBound b → None ≡ half_bound b.0 → listed d s val b m p v ≡ block d s val 1 m p v
   unfolding listed block
   list_block m p v f h = ap₂ framed (list_two d s p f h) (listed_two d s val m p v f h)
 
@@ -67,7 +66,7 @@ module _ (d : ℕ) (s val : List ℕ) where
     pub others : m - n < h.0
     pub same : listed d s val b m p v ≡ and_then (block d s val h.0 n p v) (listed d s val h (m - n) p)
 
-  pub list_halved : {b h : NonZeroPow2Usize} (m n p v : ℕ) → FairBound b → bounds.Of h ≡ half_bound b.0 → m < b.0 → n ≡ block_share m h.0 → Halved b h m n p v
+  pub list_halved : {b h : NonZeroPow2Usize} (m n p v : ℕ) → FairBound b → Some h ≡ half_bound b.0 → m < b.0 → n ≡ block_share m h.0 → Halved b h m n p v
   unfolding listed block
   list_halved {b} {h} m n p v f q l e =
       let t = listed_more d s val m n p v f q l e in
@@ -89,7 +88,7 @@ share_all m n k e = go (ltb m n) e
     go false e = inr e
 
 -- with the bound 2 there is one element at most
-pub share_one : {b : NonZeroPow2Usize} (m : ℕ) → FairBound b → bounds.Not ≡ half_bound b.0 → m < b.0 → (m ≡ 0) ⊎ (m ≡ 1)
+pub share_one : {b : NonZeroPow2Usize} (m : ℕ) → FairBound b → None ≡ half_bound b.0 → m < b.0 → (m ≡ 0) ⊎ (m ≡ 1)
 share_one {b} m f h l = go f.exponent (power_of f)
   where
     few : (m : ℕ) → m < 2 → (m ≡ 0) ⊎ (m ≡ 1)

@@ -6,20 +6,20 @@ use Rattle.frame.proofs.Laws.Files.{file_sizes, file_fitted, file_zeros, file_do
 use Rattle.told.specs.Laws.Widths.{width_there}
 use Rattle.frame.proofs.write_frame.Goals as goal
 
-pub bounds-widths-0 : goal.bounds-widths-0
-bounds-widths-0 c = width_there (stands c.requires.given) c.requires.wide
+pub width-width-requires : goal.width-width-requires
+width-width-requires c = width_there (stands c.requires.given) c.requires.wide
 
 pub overflow_add-len : goal.overflow_add-len
-overflow_add-len c = let l = (file_sizes _ (stands c.requires.given) c.requires.wide c.requires.room).0 in omega arith
+overflow_add-len c = let l = (file_sizes _ (stands c.requires.given) c.requires.wide c.requires.room).0 in omega (arith, c.width-width.ensures)
 
 pub write_record-requires : goal.write_record-requires
-write_record-requires c = record { stands = stands c.requires.given; wide = c.requires.wide; fitted = file_fitted _ (stands c.requires.given) c.requires.wide c.requires.room; lefts_value = c.requires.lefts_value }
+write_record-requires c = record { stands = stands c.requires.given; wide = c.requires.wide; fitted = file_fitted _ (stands c.requires.given) c.requires.wide c.requires.room }
 
 pub overflow_mul-len : goal.overflow_mul-len
-overflow_mul-len c = let l = (file_sizes _ (stands c.requires.given) c.requires.wide c.requires.room).0 in omega arith
+overflow_mul-len c = let l = (file_sizes _ (stands c.requires.given) c.requires.wide c.requires.room).0 in omega (arith, c.width-width.ensures)
 
 pub write_zeros-requires : goal.write_zeros-requires
-write_zeros-requires c = file_zeros _ (stands c.requires.given) c.requires.wide c.requires.room c.write_record.ensures
+write_zeros-requires c = rw c.width-width.ensures (file_zeros _ (stands c.requires.given) c.requires.wide c.requires.room c.write_record.ensures)
 
 pub returns : goal.returns
-returns c = file_done _ (stands c.requires.given) c.requires.wide c.requires.room c.write_record.ensures c.write_zeros.ensures (λ i. search rules) (λ i. (c.type_inv.out i).fits)
+returns c = rw c.width-width.ensures (file_done _ (stands c.requires.given) c.requires.wide c.requires.room c.write_record.ensures (rw (← c.width-width.ensures) c.write_zeros.ensures) (λ i. search rules) (λ i. (c.type_inv.out i).fits))

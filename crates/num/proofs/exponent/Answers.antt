@@ -1,3 +1,4 @@
+use Rattle.std.specs.Prelude.{Some, None}
 use mathlib.Core.Path.{◌≡◌, refl, sym, ap, ◌∙◌}
 use mathlib.Core.Option.{some}
 use Prim.Native.Nat.{ℕ, zero, suc, ◌+◌, ◌-◌, ◌*◌, ◌^◌, ◌≤◌, ◌<◌}
@@ -7,7 +8,6 @@ use native.Mathlib.Omega.{arith}
 use lib.Dec.{eqb}
 use borrow.Author.Tests.{eq-eqb, ne_eqb}
 use Rattle.model.specs.Options.{pick, find}
-use Rattle.num.specs.declared.Found.TheVariants.{At, Nothing}
 use Rattle.num.specs.Powers.{found, exponent_of}
 use Rattle.num.proofs.exponent.Invariants.{Searching}
 use Rattle.num.proofs.exponent.Goals as goal
@@ -24,7 +24,7 @@ searching_look n count power k h s = go s.left s.all s.same
     go zero q e = absurd (omega arith)
     go (suc m) q e = (m, refl, e ∙ ap (λ p. found (pick (eqb n p) (some k) (find (λ k. 2 ^ k) m (suc k) n))) (sym s.is_power))
 
-searching_found : (n count power k : ℕ) → k < count → power ≡ n → Searching n count power k → At k ≡ exponent_of count n
+searching_found : (n count power k : ℕ) → k < count → power ≡ n → Searching n count power k → Some k ≡ exponent_of count n
 searching_found n count power k h q s = let (l, e, m) = searching_look n count power k h s in sym (m ∙ rw (eq-eqb n power (sym q)))
 
 searching_next : (n count power k : ℕ) → k < count → (power ≡ n → ⊥) → Searching n count power k → Searching n count (power * 2) (k + 1)
@@ -32,10 +32,10 @@ searching_next n count power k h q s =
     let (l, e, m) = searching_look n count power k h s in
     rw (add-one k) (record { left = l; all = omega (arith, s.all); is_power = omega (arith, s.is_power, two-pow-succ k); same = m ∙ rw (ne_eqb n power (λ z. q (sym z))) })
 
-searching_end : (n count power k : ℕ) → count ≤ k → Searching n count power k → Nothing ≡ exponent_of count n
+searching_end : (n count power k : ℕ) → count ≤ k → Searching n count power k → None ≡ exponent_of count n
 searching_end n count power k h s = go s.left s.all s.same
   where
-    go : (l : ℕ) → k + l ≡ count → exponent_of count n ≡ found (find (λ k. 2 ^ k) l k n) → Nothing ≡ exponent_of count n
+    go : (l : ℕ) → k + l ≡ count → exponent_of count n ≡ found (find (λ k. 2 ^ k) l k n) → None ≡ exponent_of count n
     go zero q e = sym e
     go (suc m) q e = absurd (omega arith)
 
@@ -51,12 +51,6 @@ returns-then-power-n c = searching_found _ _ _ _ c.loop-k-test.true c.if-power-n
 
 pub overflow_mul-power : goal.overflow_mul-power
 overflow_mul-power c = omega (arith, searching_small _ _ _ _ c.loop-k-test.true c.requires c.loop-k.invariant)
-
-pub overflow_add-k : goal.overflow_add-k
-overflow_add-k c = omega arith
-
-pub loop-k-smaller : goal.loop-k-smaller
-loop-k-smaller c = omega arith
 
 pub loop-k-preserved : goal.loop-k-preserved
 loop-k-preserved c = searching_next _ _ _ _ c.loop-k-test.true c.if-power-n.false c.loop-k.invariant

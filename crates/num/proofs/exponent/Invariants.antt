@@ -1,7 +1,6 @@
 -- The powers from 2 ^ k on are those that are left to look at: what is found among them is what is found among all.
--- The measure is how many they are.
 use mathlib.Core.Path.{◌≡◌}
-use Prim.Native.Nat.{ℕ, ◌+◌, ◌-◌, ◌^◌}
+use Prim.Native.Nat.{ℕ, ◌+◌, ◌^◌}
 use Rattle.model.specs.Options.{find}
 use Rattle.num.specs.Powers.{found, exponent_of}
 use Rattle.num.proofs.exponent.Given as goal
@@ -14,6 +13,3 @@ pub record Searching (n count power k : ℕ) : Type 0 where
 
 abbrev pub invariant-loop-k : goal.invariant-loop-k
 invariant-loop-k l = Searching l.n l.count l.power l.k
-
-abbrev pub decreases-loop-k : goal.decreases-loop-k
-decreases-loop-k l = l.count - l.k

@@ -1,27 +1,20 @@
--- `operations::lower` meets its contract. Rows 1 to 7, the table and the first size come with the type that was read; the first size is the lowered type's
--- length, so the function's own test is row 17, and where it passes there is room for the writer. Each answer is one law of `Lowers`. Assumes nothing.
-use native.Mathlib.Omega.{arith}
-use borrow.Author.Rules.{rules}
-use Rattle.delivery.specs.Lowers.{lower_refused, lower_no_room, lower_given, lower_room, lower_done}
-use Rattle.entries.specs.Given.{ends_count, given_table, given_refused, given_root, given_size}
+-- `operations::lower` meets its contract. The first size is the lowered type's length, so the function's own test is row 17, and where it passes there is room for the
+-- writer. Each answer is one law of `Lowers`. Assumes nothing.
+use Rattle.std.proofs.Common.{refl, arith}
+use Rattle.delivery.specs.Lowers.{lower_no_room, lower_room, lower_done}
+use Rattle.delivery.specs.Tables.{sizes_long, measured_given}
 use Rattle.operations.proofs.lower.Goals as goal
 
-pub returns-then-out-root : goal.returns-then-out-root
-returns-then-out-root c = let size = given_size c.requires.type_read c.in-Root.is in
-    let short = c.if-out-root.true in
-    lower_no_room (given_table c.requires.type_read) (given_root c.in-Root.is) (omega arith)
+pub size-requires : goal.size-requires
+size-requires c = let l = sizes_long c.requires in omega arith
 
-pub slice_bounds-ends-end : goal.slice_bounds-ends-end
-slice_bounds-ends-end c = ends_count c.requires.type_read
+pub returns-then-out-size : goal.returns-then-out-size
+returns-then-out-size c = let short = c.if-out-size.true in lower_no_room c.requires.tabled refl (omega (arith, c.size.ensures))
 
 pub write_lowered-requires : goal.write_lowered-requires
-write_lowered-requires c = let read = c.requires.type_read in let size = given_size read c.in-Root.is in let enough = c.if-out-root.false in record { given = lower_given (given_table read) (given_root c.in-Root.is); room = lower_room (given_table read) (given_root c.in-Root.is) c.args.out.now (omega arith); lefts_value = search rules }
+write_lowered-requires c =
+    let enough = c.if-out-size.false in
+    record { given = measured_given c.requires; room = lower_room c.requires.tabled refl c.args.out.now (omega (arith, c.size.ensures)) }
 
-pub returns-in-Refused : goal.returns-in-Refused
-returns-in-Refused c = lower_refused (given_table c.requires.type_read) (given_refused c.in-Refused.is)
-
-pub returns-else-out-root : goal.returns-else-out-root
-returns-else-out-root c = let read = c.requires.type_read in
-    let size = given_size read c.in-Root.is in
-    let enough = c.if-out-root.false in
-    lower_done (given_table read) (given_root c.in-Root.is) (omega arith) c.write_lowered.ensures
+pub returns : goal.returns
+returns c = let enough = c.if-out-size.false in lower_done c.requires.tabled refl (omega (arith, c.size.ensures)) c.write_lowered.ensures

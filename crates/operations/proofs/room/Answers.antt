@@ -1,22 +1,18 @@
--- `operations::room` meets its contract. Rows 1 to 7, the table and the first size come with the type that was read; the first width is the frame's, and no part of a type
--- that lowers is too large for the walk that counts. Each answer is one law of `Rooms`. Assumes nothing.
-use borrow.Author.Rules.{rules}
-use Rattle.delivery.specs.Lowers.{lower_given}
-use Rattle.delivery.specs.Rooms.{room_refused, room_small, room_done}
-use Rattle.entries.specs.Given.{ends_count, widths_long, given_table, given_refused, given_root, given_size}
+-- `operations::room` meets its contract. The first size and width are the lowered type's and the frame's, and no part of a type that lowers is too large for the walk that
+-- counts. Each answer is one law of `Rooms`. Assumes nothing.
+use Rattle.std.proofs.Common.{refl, arith}
+use Rattle.delivery.specs.Rooms.{room_small, room_done}
+use Rattle.delivery.specs.Tables.{sizes_long, widths_long, measured_given}
 use Rattle.operations.proofs.room.Goals as goal
 
-ruleset steps = (lower_given, room_refused, room_small, ends_count, given_table, given_refused, given_root, rules)
+pub size-requires : goal.size-requires
+size-requires c = let l = sizes_long c.requires in omega arith
 
-pub slice_bounds-ends-end : goal.slice_bounds-ends-end
-slice_bounds-ends-end c = search steps
+pub width-requires : goal.width-requires
+width-requires c = let l = widths_long c.requires in omega arith
 
 pub longest_shape-requires : goal.longest_shape-requires
-longest_shape-requires c = search steps
+longest_shape-requires c = record { given = measured_given c.requires; small = room_small c.requires.tabled refl }
 
-pub returns-in-Refused : goal.returns-in-Refused
-returns-in-Refused c = search steps
-
-pub returns-in-Root : goal.returns-in-Root
-returns-in-Root c = let read = c.requires.type_read in
-    room_done (given_table read) (given_root c.in-Root.is) (widths_long read) _ _ (given_size read c.in-Root.is) c.longest_shape.ensures
+pub returns : goal.returns
+returns c = rw c.width.ensures (room_done c.requires.tabled refl (widths_long c.requires) _ _ c.size.ensures c.longest_shape.ensures)

@@ -1,24 +1,16 @@
--- `operations::shape_records` meets its contract. Rows 1 to 7 and the table come with the type that was read, rows 15, 16, 21 and 22 and the shape's length from
--- `check_file`. Each answer is one law of `Shapes`. Assumes nothing.
-use borrow.Author.Rules.{rules}
-use Rattle.delivery.specs.Lowers.{lower_given}
-use Rattle.delivery.specs.Shapes.{count_refused, count_bad_value, count_done}
-use Rattle.entries.specs.Given.{ends_count, given_table, given_refused, given_root}
+-- `operations::shape_records` meets its contract. Rows 15, 16, 21 and 22 and the shape's length come from `check_file`. Each answer is one law of `Shapes`. Assumes nothing.
+use Rattle.std.proofs.Common.{◌≡◌, refl, rules, Err}
+use Rattle.delivery.specs.Shapes.{count_bad_value, count_done}
+use Rattle.delivery.specs.Tables.{measured_given}
 use Rattle.operations.proofs.shape_records.Goals as goal
 
-ruleset steps = (lower_given, count_refused, count_bad_value, count_done, ends_count, given_table, given_refused, given_root, rules)
-
-pub slice_bounds-ends-end : goal.slice_bounds-ends-end
-slice_bounds-ends-end c = search steps
-
 pub check_file-requires : goal.check_file-requires
-check_file-requires c = search steps
+check_file-requires c = measured_given c.requires
 
-pub returns-in-Refused : goal.returns-in-Refused
-returns-in-Refused c = search steps
+pub returns-in_err-records : goal.returns-in_err-records
+returns-in_err-records c =
+    let z : c.from_residual.result ≡ Err c.in_err-records.field-0.0 = search rules in
+    rw z (count_bad_value c.requires.tabled refl _ c.check_file.ensures c.in_err-records.was)
 
-pub returns-in-Bad : goal.returns-in-Bad
-returns-in-Bad c = search steps
-
-pub returns-in-Next : goal.returns-in-Next
-returns-in-Next c = search steps
+pub returns : goal.returns
+returns c = count_done c.requires.tabled refl _ c.check_file.ensures c.in_ok-records.was

@@ -1,44 +1,29 @@
-use Prim.Native.Nat.{◌-◌, ◌<◌}
+use mathlib.Core.Path.{◌≡◌, sym, ap, ◌∙◌}
+use borrow.Author.Rules.{rules}
 use native.Mathlib.Omega.{arith}
-use lib.ListN.{length}
-use Rattle.part.specs.Laws.Asked.{path_odd_refused, followed_start, followed_room, followed_nowhere, followed_next, followed_end}
+use Rattle.std.specs.Prelude.{None, Err, ok_or}
+use Rattle.std.specs.Result.{result_ok}
+use Rattle.reply.specs.declared.Refusal.TheVariants.{NoSuchPart}
+use Rattle.types.specs.Entries.{ends, widths}
+use Rattle.part.specs.Laws.Asked.{path_odd_refused, followed_start, followed_nowhere, followed_next, followed_end}
 use Rattle.part.proofs.find_part.Goals as goal
 
 pub returns-then-path-ne0 : goal.returns-then-path-ne0
-returns-then-path-ne0 c = let l = c.if-path-ne0.true in let a = c.args in path_odd_refused a.ty.now a.ends.now a.widths.now a.frame.now a.path.now (λ e. omega arith)
+returns-then-path-ne0 c = let a = c.args in path_odd_refused a.table.now.ty.now (ends a.table.now.entries.now) (widths a.table.now.entries.now) a.frame.now a.path.now c.if-path-ne0.true
 
 pub loop-j-init : goal.loop-j-init
-loop-j-init c = let a = c.args in followed_start a.ty.now a.ends.now a.widths.now a.frame.now a.path.now c.requires.holds c.if-path-ne0.false
+loop-j-init c = let a = c.args in followed_start a.table.now.ty.now (ends a.table.now.entries.now) (widths a.table.now.entries.now) a.frame.now a.path.now c.requires.holds c.if-path-ne0.false
 
-pub bounds-path-j : goal.bounds-path-j
-bounds-path-j c = omega arith
-
-pub overflow_add-j : goal.overflow_add-j
-overflow_add-j c = omega arith
-
-pub bounds-path-j-in-loop-j : goal.bounds-path-j-in-loop-j
-bounds-path-j-in-loop-j c = let l = followed_room c.loop-j.invariant (omega arith) in omega arith
-
-pub overflow_mul-i : goal.overflow_mul-i
-overflow_mul-i c = let l = c.wide-low.ensures.1 in let m = c.wide-high.ensures.1 in omega arith
-
-pub overflow_add-i : goal.overflow_add-i
-overflow_add-i c = let l = c.wide-low.ensures.1 in let m = c.wide-high.ensures.1 in omega arith
-
-pub step-requires : goal.step-requires
-step-requires c = record { holds = c.loop-j.invariant.holds; wide = c.requires.wide; lefts_value = c.requires.lefts_value }
-
-pub returns-in-Nowhere : goal.returns-in-Nowhere
-returns-in-Nowhere c = followed_nowhere c.loop-j.invariant (omega arith) c.wide-high.ensures.0 c.wide-low.ensures.0 c.step.ensures c.in-Nowhere.is
-
-pub overflow_add-j-in-loop-j : goal.overflow_add-j-in-loop-j
-overflow_add-j-in-loop-j c = let l = followed_room c.loop-j.invariant (omega arith) in omega arith
-
-pub loop-j-smaller : goal.loop-j-smaller
-loop-j-smaller c = omega arith
+pub returns-in_err-spot : goal.returns-in_err-spot
+returns-in_err-spot c =
+    let e : c.from_residual.result ≡ Err c.in_err-spot.field-0.0 = search rules in
+    let n : c.step.result ≡ None = c.ok_or.ensures.ok_part ∙ ap result_ok c.in_err-spot.was in
+    e ∙ sym c.in_err-spot.was ∙ c.ok_or.ensures.value ∙ ap (λ o. ok_or o NoSuchPart) n
+    ∙ followed_nowhere c.loop-j.invariant c.loop-j-test.true c.step_number-i.ensures c.step.ensures n
 
 pub loop-j-preserved : goal.loop-j-preserved
-loop-j-preserved c = followed_next c.loop-j.invariant (omega arith) c.wide-high.ensures.0 c.wide-low.ensures.0 c.step.ensures c.requires.wide c.in-At.is
+loop-j-preserved c =
+    followed_next c.loop-j.invariant c.loop-j-test.true c.step_number-i.ensures c.step.ensures c.requires.wide (c.ok_or.ensures.ok_part ∙ ap result_ok c.in_ok-spot.was)
 
 pub returns : goal.returns
-returns c = followed_end c.loop-j.invariant c.loop-j-test.false
+returns c = let l = c.loop-j-test.false in let e = c.if-path-ne0.false in followed_end c.loop-j.invariant (omega arith)

@@ -1,5 +1,5 @@
 -- What is found at each step, and what is known there, in the form in which the code's needs ask it.
-use Rattle.std.specs.Prelude.{◌≡◌, Bool, not, List, [], ◌∷◌, map, ltb, length, take, drop}
+use Rattle.std.specs.Prelude.{◌≡◌, Bool, not, List, [], ◌∷◌, map, ltb, length, take, drop, Some, None, Option as Optional, Result, Ok, Err}
 use Rattle.std.proofs.Math.Path.{refl, sym, ap, subst}
 use Rattle.std.proofs.Common.{◌∙◌, mul-le-mul_right, length-drop, get_or-take, get_or-drop, drop-drop, lt-ltb, le-ltb, eq-eqb, ne_eqb}
 use Rattle.std.proofs.Math.Bool.{true, false}
@@ -9,7 +9,6 @@ use Rattle.std.proofs.Math.Numerals.{sub-one}
 use native.Mathlib.Omega.{arith}
 use Rattle.std.proofs.Math.ListN.{get_or}
 use Rattle.num.specs.declared.NonZeroPow2Usize.{NonZeroPow2Usize}
-use Rattle.num.specs.declared.Bound.TheVariants as bounds
 use Rattle.num.specs.Powers.{bound, bound_log2, half_bound}
 use Rattle.num.specs.Laws.{bounded, bound_power, half_bound_two, half_bound_more}
 use Rattle.model.specs.Options.{pick}
@@ -22,11 +21,12 @@ use Rattle.model.specs.Lowering.{lower, lowers}
 use Rattle.model.specs.Frames.{width}
 use Rattle.model.specs.Paths.{steps}
 use Rattle.model.proofs.Laws.Sizes.{width_all, width_product_of, width_partition_zero, width_partition_suc}
+use Rattle.reply.specs.declared.Refusal.{Refusal}
 use Rattle.reply.specs.declared.Refusal.TheVariants.{PathOdd, NoSuchPart}
 use Rattle.types.specs.declared.Head.{Head}
-use Rattle.types.specs.declared.Head.TheVariants.{Either, Opt, Tuple, Array, Listed, Variants}
+use Rattle.types.specs.declared.Head.TheVariants.{Missing, Faulty, Never, Boolean, UInt, Either, Opt, Tuple, Array, Listed, Variants, Payload}
 use Rattle.types.specs.declared.Rec.{Rec}
-use Rattle.types.specs.declared.Rec.TheVariants.{Variant}
+use Rattle.types.specs.declared.Rec.TheVariants.{Gone, Wrong, Types, Enum, Variant}
 use Rattle.types.specs.Record.{head_at, rec_at}
 use Rattle.types.specs.Heads.{Fair, FairBound}
 use Rattle.types.specs.Walks.{walk}
@@ -49,11 +49,8 @@ use Rattle.accept.specs.Laws.Formed.{copies_wide}
 use Rattle.unframe.specs.declared.Choice.{Choice}
 use Rattle.unframe.specs.Forms.{height, Chosen}
 use Rattle.unframe.specs.Laws.Formed.{SumFramed, as_product, as_sum, as_list}
-use Rattle.part.specs.declared.Place.{Place}
-use Rattle.part.specs.declared.Place.TheVariants.{At, Nowhere}
-use Rattle.part.specs.declared.Target.{Target}
-use Rattle.part.specs.declared.Target.TheVariants.{Part, Refused}
-use Rattle.part.specs.Forms.{wide_row, among, copy, element, wide_list, listed, in_variant, side, variant, step_at, below, further, follow, picks_from, target, led_to, found_in, Rowed, Cased}
+use Rattle.part.specs.declared.Spot.{Spot}
+use Rattle.part.specs.Forms.{spot, wide_row, among, copy, element, wide_list, listed, in_variant, side, variant, step_at, below, further, follow, picks_from, target, led_to, found_in, Rowed, Cased}
 use Rattle.part.specs.Holds.{Holds}
 use Rattle.part.specs.Laws.Holds.{holding_stands, holding_inside}
 use Rattle.part.specs.Laws.Rows.{wide_is}
@@ -82,51 +79,58 @@ module _ (E W : List ℕ) where
   wide_fewer (suc i) zero p l = absurd (omega arith)
   wide_fewer (suc i) (suc n) p l = omega (arith, wide_fewer i n (get_or E p 0) (omega arith))
 
--- i types are being passed over: of those from p on `left` are left, which stand from `place` and `here` on
-pub record Passing (E W : List ℕ) (i p bit place here left : ℕ) : Type 0 where
-  pub rowed : Rowed E W left place here
-  pub leads : hops E i p ≡ hops E left place
-  pub begins : bit + wide_row E W i p ≡ here + wide_row E W left place
+-- k of the i types from p on were passed over: the others stand from `place` and `here` on
+pub record Passing (E W : List ℕ) (i p bit place here k : ℕ) : Type 0 where
+  pub rowed : Rowed E W (i - k) place here
+  pub leads : hops E i p ≡ hops E (i - k) place
+  pub begins : bit + wide_row E W i p ≡ here + wide_row E W (i - k) place
 
 module _ {E W : List ℕ} where
-  pub passing_start : {n p bit i : ℕ} → Rowed E W n p bit → i < n → Passing E W i p bit p bit i
+  pub passing_start : {n p bit i : ℕ} → Rowed E W n p bit → i < n → Passing E W i p bit p bit 0
   passing_start {n} {p} {bit} {i} r l =
       let f = r.fits in
       let m = wide_fewer E W i n p (omega arith) in
-      record { rowed = record { each = λ j k. r.each j (omega arith); fits = omega arith }; leads = refl; begins = refl }
+      let z : i ≡ i - 0 = omega arith in
+      record {
+        rowed = subst (λ k. Rowed E W k p bit) z (record { each = λ j k. r.each j (omega arith); fits = omega arith });
+        leads = ap (λ k. hops E k p) z;
+        begins = ap (λ k. bit + wide_row E W k p) z;
+      }
 
-  module _ {i p bit place here left : ℕ} (r : Passing E W i p bit place here left) where
-    pub passing_inside : 0 < left → (place < length E) × (place < length W)
+  module _ {i p bit place here k : ℕ} (r : Passing E W i p bit place here k) where
+    pub passing_inside : k < i → (place < length E) × (place < length W)
     unfolding hops
-    passing_inside l = r.rowed.each 0 l
+    passing_inside l = r.rowed.each 0 (omega arith)
 
-    pub passing_fits : 0 < left → here + get_or W place 0 < 2 ^ 64
-    passing_fits l = let f = r.rowed.fits in let e = wide_next E W left place l in omega arith
+    pub passing_fits : k < i → here + get_or W place 0 < 2 ^ 64
+    passing_fits l = let f = r.rowed.fits in let e = wide_next E W (i - k) place (omega arith) in omega arith
 
-    pub passing_next : 0 < left → Passing E W i p bit (get_or E place 0) (here + get_or W place 0) (left - 1)
+    pub passing_next : k < i → Passing E W i p bit (get_or E place 0) (here + get_or W place 0) (k + 1)
     unfolding hops
     passing_next l =
         let f = r.rowed.fits in
-        let e = wide_next E W left place l in
+        let e = wide_next E W (i - k) place (omega arith) in
         let b = r.begins in
-        let z : left ≡ suc (left - 1) = omega arith in
+        let z : i - k ≡ suc (i - (k + 1)) = omega arith in
+        let y : i - k - 1 ≡ i - (k + 1) = omega arith in
+        let w = ap (λ k. wide_row E W k (get_or E place 0)) y in
         record {
-          rowed = record { each = λ j k. r.rowed.each (suc j) (omega arith); fits = omega arith };
+          rowed = record { each = λ j m. r.rowed.each (suc j) (omega arith); fits = omega arith };
           leads = r.leads ∙ ap (λ k. hops E k place) z;
           begins = omega arith;
         }
 
-    pub passing_end : {n : ℕ} (d : ℕ) → i < n → left ≤ 0 → At place d here ≡ among d E W n p bit i
+    pub passing_end : {n : ℕ} (d : ℕ) → i < n → i ≤ k → Some (spot place d here) ≡ among d E W n p bit i
     unfolding among hops wide_row
     passing_end {n} d l z =
-        let y : left ≡ 0 = omega arith in
+        let y : i - k ≡ 0 = omega arith in
         let a : hops E i p ≡ place = r.leads ∙ ap (λ k. hops E k place) y in
         let b : bit + wide_row E W i p ≡ here = r.begins ∙ ap (λ k. here + wide_row E W k place) y ∙ omega arith in
-        sym (picked (At (hops E i p) d (bit + wide_row E W i p)) Nowhere (lt-ltb i n l) ∙ rw (a, b) refl)
+        sym (picked (Some (spot (hops E i p) d (bit + wide_row E W i p))) None (lt-ltb i n l) ∙ rw (a, b) refl)
 
-pub among_none : (d : ℕ) (E W : List ℕ) (n p bit i : ℕ) → n ≤ i → Nowhere ≡ among d E W n p bit i
+pub among_none : (d : ℕ) (E W : List ℕ) (n p bit i : ℕ) → n ≤ i → None ≡ among d E W n p bit i
 unfolding among
-among_none d E W n p bit i l = sym (passed (At (hops E i p) d (bit + wide_row E W i p)) Nowhere (le-ltb i n l))
+among_none d E W n p bit i l = sym (passed (Some (spot (hops E i p) d (bit + wide_row E W i p))) None (le-ltb i n l))
 
 -- COPIES OF ONE
 
@@ -134,13 +138,13 @@ pub copy_fits : (bit n w i : ℕ) → i < n → bit + n * w < 2 ^ 64 → bit + i
 copy_fits bit n w i l h = let m : i * w ≤ n * w = mul-le-mul_right {m = i} {n = n} w (omega arith) in omega arith
 
 module _ (d : ℕ) (W : List ℕ) (n p bit i : ℕ) where
-  pub copy_there : i < n → At p d (bit + i * get_or W p 0) ≡ copy d W n p bit i
+  pub copy_there : i < n → Some (spot p d (bit + i * get_or W p 0)) ≡ copy d W n p bit i
   unfolding copy
-  copy_there l = sym (picked (At p d (bit + i * get_or W p 0)) Nowhere (lt-ltb i n l))
+  copy_there l = sym (picked (Some (spot p d (bit + i * get_or W p 0))) None (lt-ltb i n l))
 
-  pub copy_none : n ≤ i → Nowhere ≡ copy d W n p bit i
+  pub copy_none : n ≤ i → None ≡ copy d W n p bit i
   unfolding copy
-  copy_none l = sym (passed (At p d (bit + i * get_or W p 0)) Nowhere (le-ltb i n l))
+  copy_none l = sym (passed (Some (spot p d (bit + i * get_or W p 0))) None (le-ltb i n l))
 
 -- ELEMENTS OF A LIST
 
@@ -157,22 +161,22 @@ at_tag : (d : ℕ) (W : List ℕ) (e p : ℕ) (fr : List ℕ) (bit i : ℕ) (x :
     ]
 unfolding element
 at_tag d W e p fr bit i x t =
-    ap {B = Place} (λ x. elim x [
+    ap {B = Optional Spot} (λ x. elim x [
       | false ↦ element d W e p fr (bit + 1 + 2 ^ suc e * get_or W p 0) i
       | true ↦ pick (ltb i (2 ^ suc e)) (copy d W (2 ^ suc e) p (bit + 1) i) (element d W e p fr (bit + 1 + 2 ^ suc e * get_or W p 0) (i - 2 ^ suc e))
     ]) t
 
-at_last_tag : (d : ℕ) (W : List ℕ) (p : ℕ) (fr : List ℕ) (bit i : ℕ) (x : Bool) → tag_at fr bit ≡ x → element d W 0 p fr bit i ≡ elim x [ false ↦ Nowhere | true ↦ copy d W 1 p (bit + 1) i ]
+at_last_tag : (d : ℕ) (W : List ℕ) (p : ℕ) (fr : List ℕ) (bit i : ℕ) (x : Bool) → tag_at fr bit ≡ x → element d W 0 p fr bit i ≡ elim x [ false ↦ None | true ↦ copy d W 1 p (bit + 1) i ]
 unfolding element
-at_last_tag d W p fr bit i x t = ap {B = Place} (λ x. elim x [ false ↦ Nowhere | true ↦ copy d W 1 p (bit + 1) i ]) t
+at_last_tag d W p fr bit i x t = ap {B = Optional Spot} (λ x. elim x [ false ↦ None | true ↦ copy d W 1 p (bit + 1) i ]) t
 
 -- with the bound 2 a list is a block of 1
 pub record Last (b : NonZeroPow2Usize) (d : ℕ) (W : List ℕ) (p : ℕ) (fr : List ℕ) (bit i : ℕ) : Type 0 where
   pub wide : wide_list (bound_log2 b.0 - 1) (get_or W p 0) ≡ suc (get_or W p 0)
-  pub missing : tag_at fr bit ≡ false → Nowhere ≡ listed d W b p fr bit i
+  pub missing : tag_at fr bit ≡ false → None ≡ listed d W b p fr bit i
   pub there : tag_at fr bit ≡ true → copy d W 1 p (bit + 1) i ≡ listed d W b p fr bit i
 
-pub last_block : {b : NonZeroPow2Usize} (d : ℕ) (W : List ℕ) (p : ℕ) (fr : List ℕ) (bit i : ℕ) → FairBound b → bounds.Not ≡ half_bound b.0 → Last b d W p fr bit i
+pub last_block : {b : NonZeroPow2Usize} (d : ℕ) (W : List ℕ) (p : ℕ) (fr : List ℕ) (bit i : ℕ) → FairBound b → None ≡ half_bound b.0 → Last b d W p fr bit i
 unfolding listed wide_list
 last_block {b} d W p fr bit i f h = go f.exponent (power_of f)
   where
@@ -187,20 +191,20 @@ last_block {b} d W p fr bit i f h = go f.exponent (power_of f)
         let o = half_bound_more e in
         let z : ◌≡◌ {A = ℕ} 0 1 = cc in absurd (omega arith)
 
--- with a larger one it is a block of the half, and the list with that bound
-pub record More (b h : NonZeroPow2Usize) (n d : ℕ) (W : List ℕ) (p : ℕ) (fr : List ℕ) (bit i : ℕ) : Type 0 where
+-- with a larger one it is a block of the half, and the list with that bound; w is the width that the table tells of an element
+pub record More (b h : NonZeroPow2Usize) (n w d : ℕ) (W : List ℕ) (p : ℕ) (fr : List ℕ) (bit i : ℕ) : Type 0 where
   pub fair : FairBound h
   pub less : h.0 < b.0
-  pub wide : wide_list (bound_log2 b.0 - 1) (get_or W p 0) ≡ suc (n * get_or W p 0) + wide_list (bound_log2 h.0 - 1) (get_or W p 0)
-  pub missing : tag_at fr bit ≡ false → listed d W h p fr (bit + 1 + n * get_or W p 0) i ≡ listed d W b p fr bit i
+  pub wide : wide_list (bound_log2 b.0 - 1) (get_or W p 0) ≡ suc (n * w) + wide_list (bound_log2 h.0 - 1) (get_or W p 0)
+  pub missing : tag_at fr bit ≡ false → listed d W h p fr (bit + 1 + n * w) i ≡ listed d W b p fr bit i
   pub near : tag_at fr bit ≡ true → i < n → copy d W n p (bit + 1) i ≡ listed d W b p fr bit i
-  pub far : tag_at fr bit ≡ true → n ≤ i → listed d W h p fr (bit + 1 + n * get_or W p 0) (i - n) ≡ listed d W b p fr bit i
+  pub far : tag_at fr bit ≡ true → n ≤ i → listed d W h p fr (bit + 1 + n * w) (i - n) ≡ listed d W b p fr bit i
 
-pub more_blocks : {b h : NonZeroPow2Usize} (d : ℕ) (W : List ℕ) (p : ℕ) (fr : List ℕ) (bit i : ℕ) → FairBound b → bounds.Of h ≡ half_bound b.0 → {n : ℕ} → n ≡ h.0 → More b h n d W p fr bit i
+pub more_blocks : {b h : NonZeroPow2Usize} (d : ℕ) (W : List ℕ) (p : ℕ) (fr : List ℕ) (bit i : ℕ) → FairBound b → Some h ≡ half_bound b.0 → {n w : ℕ} → n ≡ h.0 → w ≡ get_or W p 0 → More b h n w d W p fr bit i
 unfolding listed wide_list
-more_blocks {b} {h} d W p fr bit i f q {n} s = rw s (go f.exponent (power_of f))
+more_blocks {b} {h} d W p fr bit i f q s a = rw (s, a) (go f.exponent (power_of f))
   where
-    go : (e : ℕ) → Power b e → More b h h.0 d W p fr bit i
+    go : (e : ℕ) → Power b e → More b h h.0 (get_or W p 0) d W p fr bit i
     go zero k =
         let m = ap half_bound k.power in
         let o = half_bound_two in
@@ -223,13 +227,13 @@ more_blocks {b} {h} d W p fr bit i f q {n} s = rw s (go f.exponent (power_of f))
 -- CHOICES
 
 module _ {E : List ℕ} {p : ℕ} {c : Choice} (d i : ℕ) (fr : List ℕ) (bit : ℕ) (h : Chosen E p (choice_in 2 fr bit) c) where
-  pub side_taken : i ≡ c.number → At c.at d c.bit ≡ side d E p fr bit i
+  pub side_taken : i ≡ c.number → Some (spot c.at d c.bit) ≡ side d E p fr bit i
   unfolding side
-  side_taken e = rw (h.stands_at, h.begins) (sym (picked (At (hops E (choice_in 2 fr bit).0 p) d (choice_in 2 fr bit).1) Nowhere (eq-eqb i (choice_in 2 fr bit).0 (e ∙ h.number))))
+  side_taken e = rw (h.stands_at, h.begins) (sym (picked (Some (spot (hops E (choice_in 2 fr bit).0 p) d (choice_in 2 fr bit).1)) None (eq-eqb i (choice_in 2 fr bit).0 (e ∙ h.number))))
 
-  pub side_other : (i ≡ c.number → ⊥) → Nowhere ≡ side d E p fr bit i
+  pub side_other : (i ≡ c.number → ⊥) → None ≡ side d E p fr bit i
   unfolding side
-  side_other n = sym (passed (At (hops E (choice_in 2 fr bit).0 p) d (choice_in 2 fr bit).1) Nowhere (ne_eqb i (choice_in 2 fr bit).0 (λ e. n (e ∙ sym h.number))))
+  side_other n = sym (passed (Some (spot (hops E (choice_in 2 fr bit).0 p) d (choice_in 2 fr bit).1)) None (ne_eqb i (choice_in 2 fr bit).0 (λ e. n (e ∙ sym h.number))))
 
 module _ {E : List ℕ} {p : ℕ} {c : Choice} (n : ℕ) (fr : List ℕ) (bit : ℕ) (h : Chosen E p (choice_in n fr bit) c) where
   pub choice_inside : 1 ≤ n → Hops E n p → c.at < length E
@@ -238,6 +242,18 @@ module _ {E : List ℕ} {p : ℕ} {c : Choice} (n : ℕ) (fr : List ℕ) (bit : 
   pub variant_says : (d : ℕ) (s W : List ℕ) (i : ℕ) {r : Rec} (k : Rec) → r ≡ rec_at s c.at → r ≡ k → in_variant k d E W c.at c.bit i ≡ variant d s E W n p fr bit i
   unfolding variant
   variant_says d s W i k e f = ap (λ r. in_variant r d E W c.at c.bit i) (sym f ∙ e) ∙ rw (h.stands_at, h.begins) refl
+
+  -- no part, if it is no Variant that stands there
+  pub variant_none : (d : ℕ) (s W : List ℕ) (i : ℕ) {r : Rec} → r ≡ rec_at s c.at → ((m : ℕ) → r ≡ Variant m → ⊥) → None ≡ variant d s E W n p fr bit i
+  unfolding in_variant
+  variant_none d s W i {r} e f = go r refl
+    where
+      go : (k : Rec) → r ≡ k → None ≡ variant d s E W n p fr bit i
+      go Gone h = variant_says d s W i Gone e h
+      go Wrong h = variant_says d s W i Wrong e h
+      go (Types m) h = variant_says d s W i (Types m) e h
+      go (Enum m) h = variant_says d s W i (Enum m) e h
+      go (Variant m) h = absurd (f m h)
 
   pub payload_rowed : {s W : List ℕ} → Cased s E W n p fr bit → {r : Rec} {m : ℕ} → r ≡ rec_at s c.at → r ≡ Variant m → Rowed E W m (c.at + 1) c.bit
   payload_rowed {s} o {r} {m} e f = let g : rec_at s c.at ≡ Variant m = sym e ∙ f in rw (h.stands_at, h.begins) (o.payload m (rw h.stands_at at g))
@@ -248,6 +264,26 @@ module _ (d : ℕ) (s E W : List ℕ) (p : ℕ) (fr : List ℕ) (bit i : ℕ) wh
   pub step_says : (h k : Head) → h ≡ head_at s p → h ≡ k → below k (d - 1) s E W (p + 1) fr bit i ≡ step_at d s E W p fr bit i
   unfolding step_at
   step_says h k e f = ap (λ h. below h (d - 1) s E W (p + 1) fr bit i) (sym f ∙ e)
+
+  -- nowhere, if it says none of the kinds that have parts
+  pub step_none : {h : Head} → h ≡ head_at s p → (h ≡ Either → ⊥) → (h ≡ Opt → ⊥) → ((n : ℕ) → h ≡ Tuple n → ⊥) → ((n : ℕ) → h ≡ Array n → ⊥) → ((b : NonZeroPow2Usize) → h ≡ Listed b → ⊥) → ((n : ℕ) → h ≡ Variants n → ⊥)
+      → None ≡ step_at d s E W p fr bit i
+  unfolding below
+  step_none {h} e a b c o f g = go h refl
+    where
+      go : (k : Head) → h ≡ k → None ≡ step_at d s E W p fr bit i
+      go Missing q = step_says h Missing e q
+      go Faulty q = step_says h Faulty e q
+      go Never q = step_says h Never e q
+      go Boolean q = step_says h Boolean e q
+      go (UInt n) q = step_says h (UInt n) e q
+      go Either q = absurd (a q)
+      go Opt q = absurd (b q)
+      go (Tuple n) q = absurd (c n q)
+      go (Array n) q = absurd (o n q)
+      go (Listed l) q = absurd (f l q)
+      go (Variants n) q = absurd (g n q)
+      go (Payload n) q = step_says h (Payload n) e q
 
 -- WHAT A PLACE HOLDS
 
@@ -358,10 +394,10 @@ module _ {d : ℕ} {s E W : List ℕ} {p : ℕ} {fr : List ℕ} {bit : ℕ} {h :
 
 -- A PATH
 
--- two bytes are a step
-pub picks_next : (path : List ℕ) (j : ℕ) → j + 2 ≤ length path → picks_from path j ≡ (get_or path j 0 * 256 + get_or path (j + 1) 0) ∷ picks_from path (j + 2)
+-- the step that stands from a byte on
+pub picks_at : (path : List ℕ) (j : ℕ) → j + 2 ≤ length path → picks_from path j ≡ (get_or path j 0 * 256 + get_or path (j + 1) 0) ∷ picks_from path (j + 2)
 unfolding picks_from
-picks_next path j l =
+picks_at path j l =
     let k = (length path - (j + 2)) / 2 in
     let a : length (drop j path) / 2 ≡ suc k = ap (λ n. n / 2) (length-drop j path) ∙ omega arith in
     let b : length (drop (j + 2) path) / 2 ≡ k = ap (λ n. n / 2) (length-drop (j + 2) path) in
@@ -371,6 +407,13 @@ picks_next path j l =
     ∙ ap {B = List ℕ} (λ l. (get_or path j 0 * 256 + get_or path (j + 1) 0) ∷ map (λ step. two_at step 0) (cut 2 k l)) (drop-drop 2 j path)
     ∙ ap {B = List ℕ} (λ n. (get_or path j 0 * 256 + get_or path (j + 1) 0) ∷ map (λ step. two_at step 0) (cut 2 n (drop (j + 2) path))) (sym b)
 
+-- two bytes are a step
+pub picks_next : (path : List ℕ) (j : ℕ) → 2 * j + 2 ≤ length path → picks_from path (2 * j) ≡ two_at path (2 * j) ∷ picks_from path (2 * (j + 1))
+picks_next path j l =
+    let e : 2 * j + 2 ≡ 2 * (j + 1) = omega arith in
+    let f : 2 * j + 1 ≡ suc (2 * j) = omega arith in
+    picks_at path (2 * j) l ∙ rw (e, f) refl
+
 -- and behind the last there is none
 pub picks_none : (path : List ℕ) (j : ℕ) → length path ≤ j → picks_from path j ≡ []
 unfolding picks_from
@@ -378,47 +421,38 @@ picks_none path j l =
     let a : length (drop j path) / 2 ≡ 0 = ap (λ n. n / 2) (length-drop j path) ∙ omega arith in
     ap (λ n. map (λ step. two_at step 0) (cut 2 n (drop j path))) a
 
--- what is left of a path leads on from the place that was reached
-pub record Followed (s E W fr path : List ℕ) (p d bit j : ℕ) : Type 0 where
-  pub holds : Holds d s E p fr bit
-  pub even : (length path - j) % 2 ≡ 0
-  pub same : found_in s E W fr path ≡ target (follow d s E W p fr bit (picks_from path j))
+-- j steps of a path were followed: what is left of it leads on from the place that was reached
+pub record Followed (s E W fr path : List ℕ) (x : Spot) (j : ℕ) : Type 0 where
+  pub holds : Holds x.level s E x.at fr x.bit
+  pub same : found_in s E W fr path ≡ target (follow x.level s E W x.at fr x.bit (picks_from path (2 * j)))
 
 module _ (s E W fr path : List ℕ) where
-  pub path_odd_refused : (length path % 2 ≡ 0 → ⊥) → Refused PathOdd ≡ found_in s E W fr path
+  pub path_odd_refused : (length path % 2 ≡ 0 → ⊥) → Err PathOdd ≡ found_in s E W fr path
   unfolding found_in steps
-  path_odd_refused h = ap {B = Target} (λ b. led_to (refuse path_odd (not b) >> done (map (λ step. two_at step 0) (records 2 path))) (follow 32 s E W 0 fr 0)) (sym (ne_eqb (length path % 2) 0 h))
+  path_odd_refused h = ap {B = Result Spot Refusal} (λ b. led_to (refuse path_odd (not b) >> done (map (λ step. two_at step 0) (records 2 path))) (follow 32 s E W 0 fr 0)) (sym (ne_eqb (length path % 2) 0 h))
 
-  pub followed_start : Holds 32 s E 0 fr 0 → length path % 2 ≡ 0 → Followed s E W fr path 0 32 0 0
+  pub followed_start : Holds 32 s E 0 fr 0 → length path % 2 ≡ 0 → Followed s E W fr path (spot 0 32 0) 0
   unfolding found_in steps picks_from
   followed_start o h = record {
     holds = o;
-    even = omega arith;
-    same = ap {B = Target} (λ b. led_to (refuse path_odd (not b) >> done (map (λ step. two_at step 0) (records 2 path))) (follow 32 s E W 0 fr 0)) (eq-eqb (length path % 2) 0 h);
+    same = ap {B = Result Spot Refusal} (λ b. led_to (refuse path_odd (not b) >> done (map (λ step. two_at step 0) (records 2 path))) (follow 32 s E W 0 fr 0)) (eq-eqb (length path % 2) 0 h);
   }
 
-module _ {s E W fr path : List ℕ} {p d bit j : ℕ} (h : Followed s E W fr path p d bit j) where
-  pub followed_room : j < length path → j + 2 ≤ length path
-  followed_room l = let e = h.even in omega arith
-
-  module _ {high low : ℕ} (l : j < length path) (e : high ≡ get_or path j 0) (f : low ≡ get_or path (j + 1) 0) {r : Place} (k : r ≡ step_at d s E W p fr bit (high * 256 + low)) where
-    one_more : found_in s E W fr path ≡ target (further r (λ q e b. follow e s E W q fr b (picks_from path (j + 2))))
+module _ {s E W fr path : List ℕ} {x : Spot} {j : ℕ} (h : Followed s E W fr path x j) where
+  module _ {i : ℕ} (l : j < length path / 2) (e : i ≡ two_at path (2 * j)) {r : Optional Spot} (k : r ≡ step_at x.level s E W x.at fr x.bit i) where
+    one_more : found_in s E W fr path ≡ target (further r (λ q e b. follow e s E W q fr b (picks_from path (2 * (j + 1)))))
     unfolding follow
-    one_more = h.same ∙ ap (λ picks. target (follow d s E W p fr bit picks)) (picks_next path j (followed_room l)) ∙ rw (← e, ← f, ← k) refl
+    one_more = h.same ∙ ap (λ picks. target (follow x.level s E W x.at fr x.bit picks)) (picks_next path j (omega arith)) ∙ rw (← e, ← k) refl
 
-    pub followed_nowhere : r ≡ Nowhere → Refused NoSuchPart ≡ found_in s E W fr path
-    followed_nowhere g = sym (one_more ∙ ap (λ o. target (further o (λ q e b. follow e s E W q fr b (picks_from path (j + 2))))) g)
+    pub followed_nowhere : r ≡ None → Err NoSuchPart ≡ found_in s E W fr path
+    followed_nowhere g = sym (one_more ∙ ap (λ o. target (further o (λ q e b. follow e s E W q fr b (picks_from path (2 * (j + 1)))))) g)
 
-    pub followed_next : Wide s E W → {q c b : ℕ} → r ≡ At q c b → Followed s E W fr path q c b (j + 2)
-    followed_next w {q} {c} {b} g =
-        let m = followed_room l in
-        let v = h.even in
-        record {
-          holds = step_holds h.holds w (high * 256 + low) (sym k ∙ g);
-          even = omega arith;
-          same = one_more ∙ ap (λ o. target (further o (λ q e b. follow e s E W q fr b (picks_from path (j + 2))))) g;
-        }
+    pub followed_next : Wide s E W → {y : Spot} → r ≡ Some y → Followed s E W fr path y (j + 1)
+    followed_next w {y} g = record {
+      holds = step_holds h.holds w i (sym k ∙ g);
+      same = one_more ∙ ap (λ o. target (further o (λ q e b. follow e s E W q fr b (picks_from path (2 * (j + 1)))))) g;
+    }
 
-  pub followed_end : length path ≤ j → Part p d bit ≡ found_in s E W fr path
+  pub followed_end : length path ≤ 2 * j → Ok x ≡ found_in s E W fr path
   unfolding follow
-  followed_end l = sym (h.same ∙ ap (λ picks. target (follow d s E W p fr bit picks)) (picks_none path j l))
+  followed_end l = sym (h.same ∙ ap (λ picks. target (follow x.level s E W x.at fr x.bit picks)) (picks_none path (2 * j) l))

@@ -1,5 +1,5 @@
 -- Elements of lists: through the blocks, by their tags in the frame, element i is found where writing the list begins it. An Option is the list with the bound 2.
-use Rattle.std.specs.Prelude.{◌≡◌, Bool, true, ltb, take, drop, get_or, replicate}
+use Rattle.std.specs.Prelude.{◌≡◌, Bool, true, ltb, take, drop, get_or, replicate, Option as Optional, Some, None}
 use Rattle.std.proofs.Math.Path.{refl, ap}
 use Rattle.std.proofs.Common.{sym, subst, ◌∙◌, arith, length-take, length-drop, take_at, drop_at}
 use Rattle.std.proofs.Math.Bool.{false}
@@ -32,23 +32,22 @@ use Rattle.told.specs.Widths.{Wide}
 use Rattle.told.specs.Laws.Rows.{first}
 use Rattle.accept.specs.Forms.{tag_at}
 use Rattle.accept.specs.Laws.Bits.{first_bit}
-use Rattle.part.specs.declared.Place.{Place}
-use Rattle.part.specs.declared.Place.TheVariants.{At, Nowhere}
-use Rattle.part.specs.Forms.{copy, element, listed}
+use Rattle.part.specs.declared.Spot.{Spot}
+use Rattle.part.specs.Forms.{spot, copy, element, listed}
 use Rattle.part.specs.Holds.{Leads}
 use Rattle.part.specs.Laws.Rows.{wide_is, length_ahead, each_shape, element_there, element_gone}
 
 -- of n elements of the type at record p, number i begins at bit b; behind them there is none
-record Sought (n i p d b : ℕ) (x : Place) : Type 0 where
-  there : i < n → x ≡ At p d b
-  gone : n ≤ i → x ≡ Nowhere
+record Sought (n i p d b : ℕ) (x : Optional Spot) : Type 0 where
+  there : i < n → x ≡ Some (spot p d b)
+  gone : n ≤ i → x ≡ None
 
 -- under other names
-sought_as : {n i p d b c : ℕ} {x y : Place} → x ≡ y → b ≡ c → Sought n i p d c y → Sought n i p d b x
-sought_as {p = p} {d} e f h = record { there = λ l. e ∙ h.there l ∙ ap (λ b. At p d b) (sym f); gone = λ l. e ∙ h.gone l }
+sought_as : {n i p d b c : ℕ} {x y : Optional Spot} → x ≡ y → b ≡ c → Sought n i p d c y → Sought n i p d b x
+sought_as {p = p} {d} e f h = record { there = λ l. e ∙ h.there l ∙ ap (λ b. Some (spot p d b)) (sym f); gone = λ l. e ∙ h.gone l }
 
 -- such a place leads to the element
-sought_leads : {d : ℕ} {s E : List ℕ} {p : ℕ} (front : List Bool) (i : ℕ) (xs : List (Value (tree d s p))) (bit : ℕ) (x : Place) → Given d false s E p → Sought (length xs) i p d (bit + length front) x → Leads s E (element_of (tree d s p) front i xs) bit x
+sought_leads : {d : ℕ} {s E : List ℕ} {p : ℕ} (front : List Bool) (i : ℕ) (xs : List (Value (tree d s p))) (bit : ℕ) (x : Optional Spot) → Given d false s E p → Sought (length xs) i p d (bit + length front) x → Leads s E (element_of (tree d s p) front i xs) bit x
 sought_leads {d} {s} {E} {p} front i xs bit x g h = go (ltb i (length xs)) refl
   where
     go : (y : Bool) → ltb i (length xs) ≡ y → Leads s E (element_of (tree d s p) front i xs) bit x
@@ -58,15 +57,15 @@ sought_leads {d} {s} {E} {p} front i xs bit x g h = go (ltb i (length xs)) refl
 -- BLOCKS, by their tags
 
 module _ (d : ℕ) (W : List ℕ) (p : ℕ) (fr : List ℕ) (bit i : ℕ) where
-  none_there : tag_at fr bit ≡ false → element d W zero p fr bit i ≡ Nowhere
+  none_there : tag_at fr bit ≡ false → element d W zero p fr bit i ≡ None
   unfolding element
   none_there e = rw (e, element) refl
 
-  one_there : tag_at fr bit ≡ true → i < 1 → element d W zero p fr bit i ≡ At p d (bit + 1 + i * get_or W p 0)
+  one_there : tag_at fr bit ≡ true → i < 1 → element d W zero p fr bit i ≡ Some (spot p d (bit + 1 + i * get_or W p 0))
   unfolding element copy
   one_there e l = rw (e, element) (rw (lt-ltb i 1 l) refl)
 
-  one_gone : tag_at fr bit ≡ true → 1 ≤ i → element d W zero p fr bit i ≡ Nowhere
+  one_gone : tag_at fr bit ≡ true → 1 ≤ i → element d W zero p fr bit i ≡ None
   unfolding element copy
   one_gone e l = rw (e, element) (rw (le-ltb i 1 l) refl)
 
@@ -78,7 +77,7 @@ module _ (d : ℕ) (W : List ℕ) (p : ℕ) (fr : List ℕ) (bit i : ℕ) where
     unfolding element
     none_here f = rw (f, element) refl
 
-    all_here : tag_at fr bit ≡ true → i < 2 ^ suc e → element d W (suc e) p fr bit i ≡ At p d (bit + 1 + i * get_or W p 0)
+    all_here : tag_at fr bit ≡ true → i < 2 ^ suc e → element d W (suc e) p fr bit i ≡ Some (spot p d (bit + 1 + i * get_or W p 0))
     unfolding element copy
     all_here f l = rw (f, element) (rw (lt-ltb i (2 ^ suc e) l) refl)
 
@@ -159,7 +158,7 @@ module _ (d : ℕ) (W : List ℕ) (p : ℕ) (t : SType) (fr : List ℕ) (u : get
   in_one (x ∷ xs) bit i l h (q, e) =
       let tag = a_block fr bit 1 t (x ∷ xs) (omega arith) (omega arith) h q e in
       record {
-        there = λ o. one_there d W p fr bit i tag (omega arith) ∙ ap (λ b. At p d b) (here (x ∷ xs) bit i (omega arith) h);
+        there = λ o. one_there d W p fr bit i tag (omega arith) ∙ ap (λ b. Some (spot p d b)) (here (x ∷ xs) bit i (omega arith) h);
         gone = λ o. one_gone d W p fr bit i tag (omega arith);
       }
 
@@ -209,7 +208,7 @@ module _ (d : ℕ) (W : List ℕ) (p : ℕ) (t : SType) (fr : List ℕ) (u : get
 
       in_here : i < 2 ^ suc e → Found (suc e) ss bit i
       in_here o = record {
-        there = λ j. all_here d W p fr bit i e tag o ∙ ap (λ b. At p d b) (here ss bit i (omega arith) h ∙ ap (λ l. bit + length l) (sym (ahead_here t e ss i l o)));
+        there = λ j. all_here d W p fr bit i e tag o ∙ ap (λ b. Some (spot p d b)) (here ss bit i (omega arith) h ∙ ap (λ l. bit + length l) (sym (ahead_here t e ss i l o)));
         gone = λ j. absurd (omega arith);
       }
 
@@ -219,7 +218,7 @@ module _ (d : ℕ) (W : List ℕ) (p : ℕ) (t : SType) (fr : List ℕ) (u : get
           let z = length-drop (2 ^ suc e) ss in
           let c : bit + width (largest e) + length (ahead_in_list after e t (drop (2 ^ suc e) ss) (i - 2 ^ suc e)) ≡ bit + length (ahead_in_list after (suc e) t ss i) =
           omega (arith, length-append full (ahead_in_list after e t (drop (2 ^ suc e) ss) (i - 2 ^ suc e)), length_full) ∙ ap (λ l. bit + length l) (sym (ahead_behind t e ss i l o)) in
-          record { there = λ j. f ∙ r.there (omega arith) ∙ ap (λ b. At p d b) c; gone = λ j. f ∙ r.gone (omega arith) }
+          record { there = λ j. f ∙ r.there (omega arith) ∙ ap (λ b. Some (spot p d b)) c; gone = λ j. f ∙ r.gone (omega arith) }
 
   -- the tags lead to element i
   found : (e : ℕ) (ss : List SValue) (bit i : ℕ) → length ss < 2 ^ suc e → Each t ss → Written e ss bit → Found e ss bit i
@@ -267,7 +266,7 @@ module _ {d : ℕ} {s E W : List ℕ} {p : ℕ} (fr : List ℕ) (bit i : ℕ) (g
       tag : (b : Bool) (l : List Bool) → bits_at fr bit (width (𝟙 ⊕ lower t)) ≡ b ∷ l → tag_at fr bit ≡ b
       tag b l k = tag_is fr bit 𝟙 (lower t) b l inside.0 k
 
-      at_place : (j : ℕ) (v : Value (option t)) {x : Place} → listed (d - 1) W (bound 2) (p + 1) fr bit j ≡ x → Leads s E (child after (option t) j v) bit x → Leads s E (child after (option t) j v) bit (listed (d - 1) W (bound 2) (p + 1) fr bit j)
+      at_place : (j : ℕ) (v : Value (option t)) {x : Optional Spot} → listed (d - 1) W (bound 2) (p + 1) fr bit j ≡ x → Leads s E (child after (option t) j v) bit x → Leads s E (child after (option t) j v) bit (listed (d - 1) W (bound 2) (p + 1) fr bit j)
       at_place j v f h = subst (Leads s E (child after (option t) j v) bit) (sym f) h
 
       go : (j : ℕ) (v : Value (option t)) → bits_at fr bit (width (𝟙 ⊕ lower t)) ≡ frame after (option t) v → Leads s E (child after (option t) j v) bit (listed (d - 1) W (bound 2) (p + 1) fr bit j)

@@ -1,5 +1,5 @@
 -- Parts that stand one behind the other: the place found for part i is the part's own. Of a row's parts, and of copies of one type.
-use Rattle.std.specs.Prelude.{◌≡◌, Bool, true, List, [], ◌∷◌, map, ltb, set, get_or}
+use Rattle.std.specs.Prelude.{◌≡◌, Bool, true, List, [], ◌∷◌, map, ltb, set, get_or, Option as Optional, Some, None}
 use Rattle.std.proofs.Math.Path.{refl, ap}
 use Rattle.std.proofs.Common.{sym, subst₂, ◌∙◌, suc-mul, arith, length-append, ltb-true, ltb-false}
 use Rattle.std.proofs.Math.Bool.{false}
@@ -29,9 +29,8 @@ use Rattle.structural.proofs.Laws.Forms.{stands, standing_is}
 use Rattle.told.specs.Forms.{hops}
 use Rattle.told.specs.Widths.{Wide}
 use Rattle.told.specs.Laws.Rows.{first, rest}
-use Rattle.part.specs.declared.Place.{Place}
-use Rattle.part.specs.declared.Place.TheVariants.{At, Nowhere}
-use Rattle.part.specs.Forms.{wide_row, among, copy}
+use Rattle.part.specs.declared.Spot.{Spot}
+use Rattle.part.specs.Forms.{spot, wide_row, among, copy}
 use Rattle.part.specs.Holds.{Reached, Leads}
 
 -- a part of what is itself a part begins as many bits later as are written ahead of that
@@ -43,9 +42,9 @@ reached_as : {s E : List ℕ} {X : Type 0} {o : Option (Part X)} {bit p q d a b 
 reached_as {s} {E} {o = o} {bit} {d = d} e f h = subst₂ (λ p b. Reached s E o bit p d b) (sym e) (sym f) h
 
 -- of any place
-pub leads_within : (s E : List ℕ) {X Y : Type 0} (f : X → Y) (k : List Bool) (o : Option (Part X)) (bit : ℕ) (x : Place) → Leads s E o (bit + length k) x → Leads s E (map_o (within f k) o) bit x
-leads_within s E f k o bit Nowhere h = ap (map_o (within f k)) h
-leads_within s E f k o bit (At p d b) h = reached_within f k h
+pub leads_within : (s E : List ℕ) {X Y : Type 0} (f : X → Y) (k : List Bool) (o : Option (Part X)) (bit : ℕ) (x : Optional Spot) → Leads s E o (bit + length k) x → Leads s E (map_o (within f k) o) bit x
+leads_within s E f k o bit None h = ap (map_o (within f k)) h
+leads_within s E f k o bit (Some x) h = reached_within f k h
 
 -- the table's width is that of the type's frame
 pub wide_is : {d : ℕ} {s E W : List ℕ} {p : ℕ} → Given d false s E p → Wide s E W → get_or W p 0 ≡ width (lower (tree d s p))
@@ -82,7 +81,7 @@ pub row_leads : {d : ℕ} {s E W : List ℕ} (n p bit i : ℕ) → GivenRow d fa
 unfolding among
 row_leads {d} {s} {E} {W} n p bit i g w v o = go (ltb i n) refl
   where
-    go : (x : Bool) → ltb i n ≡ x → Leads s E (part_of after (kids (tree d s) (walk d false s) n p) i v) bit (pick x (At (hops E i p) d (bit + wide_row E W i p)) Nowhere)
+    go : (x : Bool) → ltb i n ≡ x → Leads s E (part_of after (kids (tree d s) (walk d false s) n p) i v) bit (pick x (Some (spot (hops E i p) d (bit + wide_row E W i p))) None)
     go true e = row_there d s E W w n p bit i (ltb-true i n e) g v o
     go false e = row_gone d s E W n p i (ltb-false i n e) v
 
@@ -140,7 +139,7 @@ module _ {d : ℕ} {s E W : List ℕ} {p : ℕ} (bit i : ℕ) (g : Given d false
       front : List Bool
       front = ahead_in_array after (lower t) (map (inject t) v) i
 
-      go : (x : Bool) → ltb i n ≡ x → Leads s E (element_of t front i v) bit (pick x (At (p + 1) (d - 1) (bit + i * get_or W (p + 1) 0)) Nowhere)
+      go : (x : Bool) → ltb i n ≡ x → Leads s E (element_of t front i v) bit (pick x (Some (spot (p + 1) (d - 1) (bit + i * get_or W (p + 1) 0))) None)
       go true f =
           let l = ltb-true i n f in
           let k : length front ≡ i * get_or W (p + 1) 0 = length_ahead (lower t) (map (inject t) v) i (omega (arith, length-map v (inject t), o.0)) (each_shape t v o.1) ∙ ap (λ m. i * m) (sym (wide_is below w)) in

@@ -1,5 +1,5 @@
 -- One step: the place found is the child's that the model picks, whatever the kind; and a value stands there.
-use Rattle.std.specs.Prelude.{◌≡◌, true, false, List, ℕ, ◌+◌, ◌-◌}
+use Rattle.std.specs.Prelude.{◌≡◌, true, false, List, ℕ, ◌+◌, ◌-◌, Option as Optional, Some}
 use Rattle.std.proofs.Math.Path.{refl, subst}
 use Rattle.std.proofs.Common.{sym, ◌∙◌}
 use Rattle.model.specs.Types.{Ty}
@@ -16,9 +16,8 @@ use Rattle.types.specs.Trees.{node, tree, treev}
 use Rattle.types.specs.Steps.{Given, given_levels, tree_in}
 use Rattle.bits.specs.Bits.{Inside, bits_at}
 use Rattle.told.specs.Widths.{Wide}
-use Rattle.part.specs.declared.Place.{Place}
-use Rattle.part.specs.declared.Place.TheVariants.{At}
-use Rattle.part.specs.Forms.{below, step_at}
+use Rattle.part.specs.declared.Spot.{Spot}
+use Rattle.part.specs.Forms.{spot, below, step_at}
 use Rattle.part.specs.Holds.{Holding, Holds, Reached, Leads}
 use Rattle.part.specs.Laws.Holds.{part_holding}
 use Rattle.part.specs.Laws.Rows.{tuple_leads, array_leads}
@@ -26,7 +25,7 @@ use Rattle.part.specs.Laws.Lists.{list_leads, option_leads}
 use Rattle.part.specs.Laws.Sums.{either_leads, enum_leads}
 
 -- whatever value of the type stands there
-abbrev From : List ℕ → List ℕ → List ℕ → ℕ → ℕ → Ty → Place → Type 0
+abbrev From : List ℕ → List ℕ → List ℕ → ℕ → ℕ → Ty → Optional Spot → Type 0
 From s E fr bit i t x = (v : Value t) → Valid t v → Inside fr bit (width (lower t)) → bits_at fr bit (width (lower t)) ≡ frame after t v → Leads s E (child after t i v) bit x
 
 module _ {d : ℕ} {s E W : List ℕ} {p : ℕ} (fr : List ℕ) (bit i : ℕ) (g : Given d false s E p) (w : Wide s E W) where
@@ -56,7 +55,7 @@ module _ {d : ℕ} {s E : List ℕ} {p : ℕ} {fr : List ℕ} {bit : ℕ} where
   step_holding {t} {v} h i r = part_holding h r.part (subst (IfSome (Lies after (Valid t) (frame after t) v)) r.there (child_lies after t i v h.valid)) r.given r.same r.begins
 
   -- as the code asks it
-  pub step_holds : {W : List ℕ} → Holds d s E p fr bit → Wide s E W → (i : ℕ) {q e b : ℕ} → step_at d s E W p fr bit i ≡ At q e b → Holds e s E q fr b
+  pub step_holds : {W : List ℕ} → Holds d s E p fr bit → Wide s E W → (i : ℕ) {q e b : ℕ} → step_at d s E W p fr bit i ≡ Some (spot q e b) → Holds e s E q fr b
   step_holds h w i e =
       let r = subst (Leads s E (child after h.type i h.value) bit) e (step_leads h.holding w i) in
       record { type = r.part.type; value = r.part.value; holding = step_holding h.holding i r }

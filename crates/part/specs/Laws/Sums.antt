@@ -1,5 +1,5 @@
 -- The side of an Either and the Variant of an Enum that the tags in the frame lead to is the value's own, and its payload begins behind them.
-use Rattle.std.specs.Prelude.{◌≡◌, Bool, ltb, eqb, take, drop, get_or}
+use Rattle.std.specs.Prelude.{◌≡◌, Bool, ltb, eqb, take, drop, get_or, Option as Optional, Some, None}
 use Rattle.std.proofs.Math.Path.{refl, sym, ap, subst}
 use Rattle.std.proofs.Common.{ap₂, ◌∙◌, length-append, take_at, take-take, ltb-true, ltb-false, ne_eqb}
 use Rattle.std.proofs.Math.Bool.{false, true}
@@ -37,9 +37,8 @@ use Rattle.told.specs.Forms.{hops}
 use Rattle.told.specs.Laws.Rows.{first, rest}
 use Rattle.accept.specs.Forms.{tag_at, farther, led, choice_in}
 use Rattle.accept.specs.Laws.Bits.{first_bit}
-use Rattle.part.specs.declared.Place.{Place}
-use Rattle.part.specs.declared.Place.TheVariants.{At, Nowhere}
-use Rattle.part.specs.Forms.{among, side, variant, in_variant}
+use Rattle.part.specs.declared.Spot.{Spot}
+use Rattle.part.specs.Forms.{spot, among, side, variant, in_variant}
 use Rattle.part.specs.Holds.{Leads}
 use Rattle.part.specs.Laws.Rows.{row_leads, leads_within}
 
@@ -108,7 +107,7 @@ led_to (fork l r) ts fr bit i h k =
 -- THE VARIANT PRESENT
 
 -- a part of what is itself a part, with no bits ahead of that
-leads_as : (s E : List ℕ) {X Y : Type 0} (f : X → Y) (o : Option (Part X)) (bit : ℕ) (x : Place) → Leads s E o bit x → Leads s E (map_o (within f []) o) bit x
+leads_as : (s E : List ℕ) {X Y : Type 0} (f : X → Y) (o : Option (Part X)) (bit : ℕ) (x : Optional Spot) → Leads s E o bit x → Leads s E (map_o (within f []) o) bit x
 leads_as s E f o bit x h = let a : bit ≡ bit + 0 = omega arith in leads_within s E f [] o bit x (subst (λ b. Leads s E o b x) a h)
 
 -- of no types there is no part
@@ -145,16 +144,16 @@ module _ (e : ℕ) (s E W : List ℕ) (w : Wide s E W) (bit i : ℕ) where
 
 module _ (e : ℕ) (s E : List ℕ) (q : ℕ) (fr : List ℕ) (bit : ℕ) where
   -- the side that the tag says, if it is the one that was asked for
-  abbrev tagged_side : Bool → ℕ → Place
-  tagged_side false i = pick (eqb i 0) (At q e (bit + 1)) Nowhere
-  tagged_side true i = pick (eqb i 1) (At (get_or E q 0) e (bit + 1)) Nowhere
+  abbrev tagged_side : Bool → ℕ → Optional Spot
+  tagged_side false i = pick (eqb i 0) (Some (spot q e (bit + 1))) None
+  tagged_side true i = pick (eqb i 1) (Some (spot (get_or E q 0) e (bit + 1))) None
 
   side_is : (i : ℕ) → side e E q fr bit i ≡ tagged_side (tag_at fr bit) i
   unfolding side choice_in led hops btree grow btree_split_index next_power_of_two powers.next
   side_is i = go (tag_at fr bit)
     where
-      found : ℕ × ℕ → Place
-      found x = pick (eqb i x.0) (At (hops E x.0 q) e x.1) Nowhere
+      found : ℕ × ℕ → Optional Spot
+      found x = pick (eqb i x.0) (Some (spot (hops E x.0 q) e x.1)) None
 
       go : (x : Bool) → found (elim x [ false ↦ (0, bit + 1) | true ↦ (1, bit + 1) ]) ≡ tagged_side x i
       go true = refl
@@ -197,6 +196,6 @@ module _ {d : ℕ} {s E W : List ℕ} {p : ℕ} (fr : List ℕ) (bit i : ℕ) (g
       let a : n ≡ suc (n - 1) = omega arith in
       let b = begins fr bit (width (lower (enum vs))) xs _ inside.0 (written ∙ (frame_enum after vs v).splits v (o, refl) ∙ append_assoc xs _ _) in
       let f : choice_in n fr bit ≡ (index vs v, bit + length xs) = ap (λ m. choice_in m fr bit) (a ∙ sym (count_cases _ _ (n - 1) (p + 1))) ∙ led_to (btree (count vs)) (payloads vs) fr bit (index vs v) (index_bound vs v) b in
-      let found : ℕ × ℕ → Place = λ x. in_variant (rec_at s (hops E x.0 (p + 1))) (d - 1) E W (hops E x.0 (p + 1)) x.1 i in
+      let found : ℕ × ℕ → Optional Spot = λ x. in_variant (rec_at s (hops E x.0 (p + 1))) (d - 1) E W (hops E x.0 (p + 1)) x.1 i in
       subst (λ x. Leads s E (child after (enum vs) i v) bit (found x)) (sym f)
       (leads_within s E (λ d. d) xs (choice_part after vs i v) bit (found (index vs v, bit + length xs)) (case_leads (d - 1) s E W w (bit + length xs) i (n - 1) (p + 1) (subst (λ m. GivenRow (d - 1) true s E m (p + 1)) a (given_head (Variants n) g (sym e) refl)) v o))

@@ -1,18 +1,9 @@
--- What was read is known in each arm, and both numbers are small. Assumes nothing.
-use borrow.Author.Rules.{rules}
-use Rattle.rebuild.specs.Laws.Steps.{plus_of, plus_fits, surplus_fits, plus_not}
+-- What was read is known in each arm. Assumes nothing.
+use Rattle.rebuild.specs.Laws.Steps.{plus_of, plus_not}
 use Rattle.rebuild.proofs.plus.Goals as goal
 
-ruleset steps = (plus_of, plus_fits, surplus_fits, plus_not, rules)
+pub returns-in_err-r : goal.returns-in_err-r
+returns-in_err-r c = rw c.from_residual.ensures (plus_not _ _ _ c.in_err-r.was)
 
-pub overflow_add-result : goal.overflow_add-result
-overflow_add-result c = search steps
-
-pub overflow_add-result-in-Of : goal.overflow_add-result-in-Of
-overflow_add-result-in-Of c = search steps
-
-pub returns-in-Not : goal.returns-in-Not
-returns-in-Not c = search steps
-
-pub returns-in-Of : goal.returns-in-Of
-returns-in-Of c = search steps
+pub returns : goal.returns
+returns c = plus_of _ _ _ _ c.in_ok-r.was

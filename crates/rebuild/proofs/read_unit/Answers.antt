@@ -5,12 +5,6 @@ use Rattle.rebuild.proofs.read_unit.Goals as goal
 
 ruleset steps = (unit_fits, unit_yes, unit_no, rules)
 
-pub record_at-requires : goal.record_at-requires
-record_at-requires c = search steps
-
-pub overflow_add-result : goal.overflow_add-result
-overflow_add-result c = search steps
-
 pub returns-then-record_at-eq-UNIT : goal.returns-then-record_at-eq-UNIT
 returns-then-record_at-eq-UNIT c = search steps
 

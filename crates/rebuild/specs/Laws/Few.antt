@@ -1,5 +1,5 @@
 -- The records of whatever is read at a record of a type file fit: there are at most 33 for each of the 65,536 of a shape.
-use Rattle.std.specs.Prelude.{◌≡◌, refl, Bool, List, length}
+use Rattle.std.specs.Prelude.{◌≡◌, refl, Bool, List, length, Option, Some, None}
 use Rattle.std.proofs.Common.{sym, ap, subst, mul-le-mul, arith}
 use Rattle.std.proofs.Math.Bool.{true, false}
 use Prim.Native.Nat.{ℕ, zero, suc, ◌+◌, ◌*◌, ◌≤◌}
@@ -9,9 +9,6 @@ use Rattle.types.specs.Trees.{tree, type_in}
 use Rattle.rebuild.specs.declared.Parts.{Parts}
 use Rattle.rebuild.specs.declared.Parts.TheVariants.{Bits, Copies, Types}
 use Rattle.rebuild.specs.declared.Read.{Read}
-use Rattle.rebuild.specs.declared.Read.TheVariants.{Of, Not}
-use Rattle.rebuild.specs.declared.Records.{Records}
-use Rattle.rebuild.specs.declared.Records.TheVariants as records
 use Rattle.rebuild.specs.Kinds.{reads}
 use Rattle.rebuild.specs.Reads.{Reader, reader, records_in, value_records}
 use Rattle.structural.specs.Forms.{is_variant}
@@ -51,27 +48,27 @@ few_within z d p e n k h l w =
     last : (a b n : ℕ) → n + a ≤ b → b ≤ 33 * 65536 → n ≤ most_records
     last a b n h l = omega arith
 
-few_fits : (z d p : ℕ) (x : Read) → z ≤ 65536 → d ≤ 32 → Fits z (suc d) p x → Few (count_of x) (surplus_of x)
-few_fits z d p (Of e n k) h l w = few_within z d p e n k h l w
-few_fits z d p Not h l w = record { records = omega arith; surplus = omega arith }
+few_fits : (z d p : ℕ) (x : Option Read) → z ≤ 65536 → d ≤ 32 → Fits z (suc d) p x → Few (count_of x) (surplus_of x)
+few_fits z d p (Some r) h l w = few_within z d p r.next r.records r.surplus h l w
+few_fits z d p None h l w = record { records = omega arith; surplus = omega arith }
 
-few_read : (sh : List ℕ) (d p : ℕ) (x : Read) → Limits sh d → (r : Reader) → Small sh (suc d) r → x ≡ r p → Few (count_of x) (surplus_of x)
+few_read : (sh : List ℕ) (d p : ℕ) (x : Option Read) → Limits sh d → (r : Reader) → Small sh (suc d) r → x ≡ r p → Few (count_of x) (surplus_of x)
 few_read sh d p x l r h e = few_fits (length sh) d p x l.short l.low (subst (λ y. Fits (length sh) (suc d) p y) (sym e) (h.fits p))
 
 -- numbers that tell answers apart
-abbrev pub count_in : Records → ℕ
-count_in (records.Of n k) = n
-count_in records.Not = 0
+abbrev pub count_in : Option (ℕ × ℕ) → ℕ
+count_in (Some (n, k)) = n
+count_in None = 0
 
-abbrev pub surplus_in : Records → ℕ
-surplus_in (records.Of n k) = k
-surplus_in records.Not = 0
+abbrev pub surplus_in : Option (ℕ × ℕ) → ℕ
+surplus_in (Some (n, k)) = k
+surplus_in None = 0
 
-abbrev pub some_in : Records → ℕ
-some_in (records.Of n k) = 1
-some_in records.Not = 0
+abbrev pub some_in : Option (ℕ × ℕ) → ℕ
+some_in (Some (n, k)) = 1
+some_in None = 0
 
-module _ (sh : List ℕ) (d : ℕ) (s : List ℕ) (p : ℕ) (x : Read) (l : Limits sh d) where
+module _ (sh : List ℕ) (d : ℕ) (s : List ℕ) (p : ℕ) (x : Option Read) (l : Limits sh d) where
   pub few_product : (k : Parts) (E : List ℕ) (n q : ℕ) → x ≡ balanced (reader sh) k d s E n q p → Few (count_of x) (surplus_of x)
   unfolding balanced
   few_product k E n q e = few_read sh d p x l _ (products_small sh (suc d) n _ (row_small sh d s k E n q)) e
@@ -89,10 +86,10 @@ module _ (sh : List ℕ) (d : ℕ) (s : List ℕ) (p : ℕ) (x : Read) (l : Limi
   few_list b q e = few_read sh d p x l _ (lists_small sh (suc d) _ (standing_small sh d s q)) e
 
 -- the records of the value that a shape gives, for the type of an accepted type file
-pub few_records : (ty sh : List ℕ) (n k : ℕ) → length sh ≤ 65536 → value_records (type_in ty) sh ≡ records.Of n k → n ≤ most_records
+pub few_records : (ty sh : List ℕ) (n k : ℕ) → length sh ≤ 65536 → value_records (type_in ty) sh ≡ Some (n, k) → n ≤ most_records
 unfolding value_records type_in
 few_records ty sh n k l h = go (reads (reader sh) (tree 32 ty 0) 0) h (few_read sh 32 0 (reads (reader sh) (tree 32 ty 0) 0) (record { short = l; low = omega arith }) (reads (reader sh) (tree 32 ty 0)) (tree_small sh ty 32 0) refl)
   where
-    go : (x : Read) → records_in x ≡ records.Of n k → Few (count_of x) (surplus_of x) → n ≤ most_records
-    go (Of e m j) h f = let i = ap count_in h in let g = f.records in omega arith
-    go Not h f = let z = ap some_in h in absurd (omega arith)
+    go : (x : Option Read) → records_in x ≡ Some (n, k) → Few (count_of x) (surplus_of x) → n ≤ most_records
+    go (Some r) h f = let i = ap count_in h in let g = f.records in omega arith
+    go None h f = let z = ap some_in h in absurd (omega arith)

@@ -1,7 +1,7 @@
 -- Laws of what is read at a record: it is what the record's form says of what stands below it (`formed`).
 use Rattle.std.specs.Prelude.{◌≡◌, Bool, get_or, take, drop, replicate}
 use Rattle.std.proofs.Math.Path.{refl, ap, ap₂}
-use Rattle.std.proofs.Common.{sym, subst, ◌∙◌, zero-add, suc-add}
+use Rattle.std.proofs.Common.{sym, subst, ◌∙◌, ◌⊎◌, inl, inr, zero-add, suc-add}
 use Rattle.std.proofs.Math.Bool.{true, false}
 use mathlib.Core.List.{List, [], ◌∷◌}
 use Prim.Native.Nat.{ℕ, zero, suc, ◌+◌, ◌-◌, ◌≤◌}
@@ -86,6 +86,10 @@ module _ (k : Parts) (d : ℕ) (s E : List ℕ) (q : ℕ) where
 
   pub types_given : GivenPart k d s E q → k ≡ Types → Stands d s E q
   types_given g e = rw e at g
+
+  pub below_given : GivenPart k d s E q → (k ≡ Copies) ⊎ (k ≡ Types) → Stands d s E q
+  below_given g (inl e) = copies_given g e
+  below_given g (inr e) = types_given g e
 
 pub one_given : {k : Parts} {d : ℕ} {s E : List ℕ} {n p : ℕ} → GivenParts k d s E n p → n ≡ 1 → GivenPart k d s E p
 one_given g z = given_one g (omega arith)

@@ -1,6 +1,6 @@
 -- The law that joins readers with the model: where a shape stands in a file, `reads` answers if and only if `reconstruct` gives a value,
 -- with the end of the shape, the number of the value's records and what a walk makes of the shape; for those that count, its surplus.
-use Rattle.std.specs.Prelude.{◌≡◌, refl, Bool, List, [], ◌∷◌, length, get_or, replicate}
+use Rattle.std.specs.Prelude.{◌≡◌, refl, Bool, List, [], ◌∷◌, length, get_or, replicate, Option as Optional, Some, None}
 use Rattle.std.proofs.Common.{sym, ap, ap₂, ◌∙◌, append-nil, inl, inr, zero-add, arith, length-append}
 use Rattle.std.proofs.Math.Option.{Option, none, some}
 use Prim.Native.Nat.{ℕ, zero, suc, ◌+◌, ◌≤◌, ◌^◌}
@@ -19,8 +19,6 @@ use Rattle.model.proofs.Laws.Balanced.{btree_leaves}
 use Rattle.model.proofs.Laws.Options.{map_o_map_o, map_o_bind_o, map_o_known, bind_o_known}
 use Rattle.model.proofs.Laws.ShapeFiles.{shape_written_read}
 use Rattle.model.proofs.Laws.Spots.{surplus}
-use Rattle.rebuild.specs.declared.Records.{Records}
-use Rattle.rebuild.specs.declared.Records.TheVariants as records
 use Rattle.rebuild.specs.Kinds.{Readers, blocks, lists, reads, readers, cases}
 use Rattle.rebuild.specs.Reads.{records_in, value_records}
 use Rattle.rebuild.specs.Laws.Places.{Counter, plus_o, unit_count, sum_count, pair_count, any_count, no_count, Same, Sames, none_left, one_more, same_as, sames_replicate, Follows, one_same, bits_same, products_same, choices_same}
@@ -222,9 +220,9 @@ module _ {R X : Type 0} (answer : ℕ → Option ℕ → X → R) (s : List ℕ)
       ∙ ap (λ n. answer n (records_of t x) (walk K t x)) (zero-add (length (shape_records x)) ∙ ap length (sym e))
 
 -- the records of a value, if there is one, and so much surplus
-abbrev pub known : (t : Ty) → ℕ → Option (Value t) → Records
-known t k none = records.Not
-known t k (some v) = records.Of (length (encode t v)) k
+abbrev pub known : (t : Ty) → ℕ → Option (Value t) → Optional (ℕ × ℕ)
+known t k none = None
+known t k (some v) = Some ((length (encode t v)), k)
 
 -- for a file that says the shape x, the answer is of the value that `reconstruct` gives, and none exactly if it gives none
 pub value_records_reconstruct : (t : Ty) (s : List ℕ) (x : SValue) → shape_of s ≡ done x → value_records t s ≡ known t (surplus t x) (reconstruct t x)

@@ -1,12 +1,10 @@
 -- How many records a reading can give: each has a place of the shape and a level of the type of its own, so for a type of d levels
 -- there are at most d + 1 for each record of the shape that was read. And the surplus is no more than these.
-use Rattle.std.specs.Prelude.{◌≡◌, length, get_or, take, drop, replicate}
+use Rattle.std.specs.Prelude.{◌≡◌, length, get_or, take, drop, replicate, Option, Some, None, Result}
 use Rattle.std.proofs.Math.Path.{refl}
 use mathlib.Core.List.{List, [], ◌∷◌}
 use Prim.Native.Nat.{ℕ, zero, suc, ◌+◌, ◌-◌, ◌*◌, ◌≤◌, ◌<◌, ◌^◌}
 use Rattle.std.proofs.Common.{suc-mul, mul-le-mul_left, arith}
-use Rattle.array.specs.declared.TreeEnd.{TreeEnd}
-use Rattle.array.specs.declared.TreeEnd.TheVariants.{At, Nothing}
 use Rattle.array.specs.Ends.{tree_end_of}
 use Rattle.array.specs.Laws.{tree_end_at}
 use Rattle.model.specs.Balanced.{BTree, leaf, fork, leaves, btree, fold}
@@ -16,16 +14,15 @@ use Rattle.types.specs.declared.Head.TheVariants.{Missing, Faulty, Never, Boolea
 use Rattle.types.specs.declared.Head.TheVariants as head
 use Rattle.types.specs.declared.Rec.{Rec}
 use Rattle.types.specs.declared.Rec.TheVariants.{Gone, Wrong, Types, Enum, Variant}
-use Rattle.types.specs.declared.Walk.{Walk}
 use Rattle.types.specs.Record.{head_at, rec_at}
 use Rattle.types.specs.Trees.{end_of, kids, node, payload, tree, treev}
 use Rattle.types.specs.Trees as trees
 use Rattle.rebuild.specs.declared.Read.{Read}
-use Rattle.rebuild.specs.declared.Read.TheVariants.{Of, Not}
 use Rattle.rebuild.specs.Kinds.{products, choices, bits, blocks, lists, reads, readers, cases}
 use Rattle.rebuild.specs.Places.{passed, units, sums, pairs, passes, fails, at_places}
 use Rattle.rebuild.specs.Reads.{Reader, plus, next, counts, reader}
 use Rattle.rebuild.specs.Laws.Taken.{UnitTaken, is_unit, no_unit, unit_taken, SumTaken, is_left, is_right, no_sum, sum_taken, PairTaken, is_pair, no_pair, pair_taken}
+use Rattle.reply.specs.declared.Refusal.{Refusal}
 
 -- what was read from p on ends within the file, with at most L records of the value for each of the shape, and its surplus is among these
 pub record Within (z L p e n k : ℕ) : Type 0 where
@@ -34,9 +31,9 @@ pub record Within (z L p e n k : ℕ) : Type 0 where
   pub few : n + L * p ≤ L * e
   pub part : k + p ≤ e
 
-abbrev pub Fits : ℕ → ℕ → ℕ → Read → Type 0
-Fits z L p (Of e n k) = Within z L p e n k
-Fits z L p Not = Unit
+abbrev pub Fits : ℕ → ℕ → ℕ → Option Read → Type 0
+Fits z L p (Some r) = Within z L p r.next r.records r.surplus
+Fits z L p None = Unit
 
 pub record Small (s : List ℕ) (L : ℕ) (r : Reader) : Type 0 where
   pub fits : (p : ℕ) → Fits (length s) L p (r p)
@@ -75,25 +72,25 @@ in_file [] p b e l = absurd (omega arith)
 in_file (x ∷ s) zero b e l = omega arith
 in_file (x ∷ s) (suc p) b e l = omega (arith, in_file s p b e l)
 
-from_next_fits : (z L p : ℕ) (r : Read) → Fits z L (p + 1) r → Fits z L p r
-from_next_fits z L p (Of e n k) h = from_next z L p e n k h
-from_next_fits z L p Not h = tt
+from_next_fits : (z L p : ℕ) (r : Option Read) → Fits z L (p + 1) r → Fits z L p r
+from_next_fits z L p (Some x) h = from_next z L p x.next x.records x.surplus h
+from_next_fits z L p None h = tt
 
-plus_fits : (z L p m n i : ℕ) (r : Read) → Within z L p m n i → Fits z L m r → Fits z L p (plus n i r)
-plus_fits z L p m n i (Of e k j) h g = then_next z L p m e n k i j h g
-plus_fits z L p m n i Not h g = tt
+plus_fits : (z L p m n i : ℕ) (r : Option Read) → Within z L p m n i → Fits z L m r → Fits z L p (plus n i r)
+plus_fits z L p m n i (Some x) h g = then_next z L p m x.next n x.records i x.surplus h g
+plus_fits z L p m n i None h g = tt
 
-next_fits : (z L p : ℕ) (o : Read) (r : Reader) → Fits z L p o → ((m : ℕ) → Fits z L m (r m)) → Fits z L p (next o r)
-next_fits z L p (Of m n i) r h g = plus_fits z L p m n i (r m) h (g m)
-next_fits z L p Not r h g = tt
+next_fits : (z L p : ℕ) (o : Option Read) (r : Reader) → Fits z L p o → ((m : ℕ) → Fits z L m (r m)) → Fits z L p (next o r)
+next_fits z L p (Some x) r h g = plus_fits z L p x.next x.records x.surplus (r x.next) h (g x.next)
+next_fits z L p None r h g = tt
 
-one_fits : (z L p : ℕ) (r : Read) → Fits z L p r → Fits z (suc L) p (plus 1 0 r)
-one_fits z L p (Of e n k) h = deeper z L p e n k h
-one_fits z L p Not h = tt
+one_fits : (z L p : ℕ) (r : Option Read) → Fits z L p r → Fits z (suc L) p (plus 1 0 r)
+one_fits z L p (Some x) h = deeper z L p x.next x.records x.surplus h
+one_fits z L p None h = tt
 
-wider_fits : (z L p : ℕ) (r : Read) → Fits z L p r → Fits z (suc L) p r
-wider_fits z L p (Of e n k) h = wider z L p e n k h
-wider_fits z L p Not h = tt
+wider_fits : (z L p : ℕ) (r : Option Read) → Fits z L p r → Fits z (suc L) p r
+wider_fits z L p (Some x) h = wider z L p x.next x.records x.surplus h
+wider_fits z L p None h = tt
 
 -- READERS
 
@@ -127,9 +124,9 @@ module _ (s : List ℕ) (L : ℕ) where
   unfolding passes counts
   passes_small = record { fits = λ p. go p (tree_end_of s p) refl }
     where
-      go : (p : ℕ) (o : TreeEnd) → tree_end_of s p ≡ o → Fits (length s) L p (passed counts p o)
-      go p (At e) h = let t = tree_end_at (length (drop p s)) s p e (omega arith) h in let a = t.after in none_read (length s) L p e (e - (p + 1)) t.after t.inside (omega arith)
-      go p Nothing h = tt
+      go : (p : ℕ) (o : Option ℕ) → tree_end_of s p ≡ o → Fits (length s) L p (passed counts p o)
+      go p (Some e) h = let t = tree_end_at (length (drop p s)) s p e (omega arith) h in let a = t.after in none_read (length s) L p e (e - (p + 1)) t.after t.inside (omega arith)
+      go p None h = tt
 
   pub fails_small : Small s L (fails counts s)
   unfolding counts
@@ -190,7 +187,7 @@ module _ (s : List ℕ) (L : ℕ) where
 -- TYPES
 
 module _ (s ty : List ℕ) where
-  kids_small : (L : ℕ) (g : ℕ → Ty) (f : ℕ → Walk) → ((p : ℕ) → Small s L (reads (reader s) (g p))) → (n p : ℕ) → Smalls s L (readers (reader s) (kids g f n p))
+  kids_small : (L : ℕ) (g : ℕ → Ty) (f : ℕ → Result ℕ Refusal) → ((p : ℕ) → Small s L (reads (reader s) (g p))) → (n p : ℕ) → Smalls s L (readers (reader s) (kids g f n p))
   unfolding kids reads reader at_places counts
   kids_small L g f h zero p = tt
   kids_small L g f h (suc n) p = (h p, kids_small L g f h n (end_of (f p)))
@@ -199,12 +196,12 @@ module _ (s ty : List ℕ) where
   abbrev held : Tys → Reader
   held ts = products (reader s) (size ts) (readers (reader s) ts)
 
-  cases_small : (L : ℕ) (g : ℕ → Tys) (f : ℕ → Walk) → ((p : ℕ) → Small s L (held (g p))) → (n p : ℕ) → Smalls s L (cases (reader s) (trees.cases g f n p))
+  cases_small : (L : ℕ) (g : ℕ → Tys) (f : ℕ → Result ℕ Refusal) → ((p : ℕ) → Small s L (held (g p))) → (n p : ℕ) → Smalls s L (cases (reader s) (trees.cases g f n p))
   unfolding trees.cases reads reader at_places counts
   cases_small L g f h zero p = (h p, tt)
   cases_small L g f h (suc n) p = (h p, cases_small L g f h n (end_of (f p)))
 
-  node_small : (L : ℕ) (x : Head) (g : ℕ → Ty) (f : ℕ → Walk) (h : ℕ → Tys) (k : ℕ → Walk) (p : ℕ) → ((q : ℕ) → Small s L (reads (reader s) (g q))) → ((q : ℕ) → Small s L (held (h q))) → Small s (suc L) (reads (reader s) (node x g f h k p))
+  node_small : (L : ℕ) (x : Head) (g : ℕ → Ty) (f : ℕ → Result ℕ Refusal) (h : ℕ → Tys) (k : ℕ → Result ℕ Refusal) (p : ℕ) → ((q : ℕ) → Small s L (reads (reader s) (g q))) → ((q : ℕ) → Small s L (held (h q))) → Small s (suc L) (reads (reader s) (node x g f h k p))
   unfolding node reads reader at_places counts
   node_small L Missing g f h k p a b = one_small s L (products_small s L 0 [] tt)
   node_small L Faulty g f h k p a b = one_small s L (products_small s L 0 [] tt)
@@ -219,7 +216,7 @@ module _ (s ty : List ℕ) where
   node_small L (head.Variants n) g f h k p a b = one_small s L (choices_small s L _ _ (cases_small L h k b (n - 1) p))
   node_small L (Payload n) g f h k p a b = one_small s L (products_small s L 0 [] tt)
 
-  payload_small : (L : ℕ) (x : Rec) (g : ℕ → Ty) (f : ℕ → Walk) (p : ℕ) → ((q : ℕ) → Small s L (reads (reader s) (g q))) → Small s L (held (payload x g f p))
+  payload_small : (L : ℕ) (x : Rec) (g : ℕ → Ty) (f : ℕ → Result ℕ Refusal) (p : ℕ) → ((q : ℕ) → Small s L (reads (reader s) (g q))) → Small s L (held (payload x g f p))
   unfolding payload reads reader at_places counts
   payload_small L Gone g f p a = products_small s L 0 [] tt
   payload_small L Wrong g f p a = products_small s L 0 [] tt

@@ -9,12 +9,6 @@ loop-i-init c = (omega arith, no_zeros _)
 pub bounds-out-i : goal.bounds-out-i
 bounds-out-i c = let i = c.loop-i.invariant in let e = zeros_length i.0 c.requires i.1 in omega arith
 
-pub overflow_add-i : goal.overflow_add-i
-overflow_add-i c = omega arith
-
-pub loop-i-smaller : goal.loop-i-smaller
-loop-i-smaller c = omega arith
-
 pub loop-i-preserved : goal.loop-i-preserved
 loop-i-preserved c = let i = c.loop-i.invariant in let l = c.loop-i-test.true in (omega arith, zero_next l c.requires i.1)
 

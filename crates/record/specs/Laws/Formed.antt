@@ -1,5 +1,5 @@
 -- The records of a tree are what the form of the type's record says of what stands below it (`formed`), whatever the tree is.
-use Rattle.std.specs.Prelude.{◌≡◌, true, false, List, [], ◌∷◌}
+use Rattle.std.specs.Prelude.{◌≡◌, true, false, List, [], ◌∷◌, Result, Ok, Err}
 use Rattle.std.proofs.Math.Path.{refl, ap}
 use Rattle.std.proofs.Common.{sym, subst, ◌∙◌, arith}
 use Rattle.std.proofs.Math.Bool.{Bool}
@@ -19,8 +19,6 @@ use Rattle.types.specs.declared.Head.TheVariants.{Missing, Faulty, Never, Boolea
 use Rattle.types.specs.declared.Head.TheVariants as head
 use Rattle.types.specs.declared.Rec.TheVariants.{Gone, Wrong, Variant}
 use Rattle.types.specs.declared.Rec as types
-use Rattle.types.specs.declared.Walk.{Walk}
-use Rattle.types.specs.declared.Walk.TheVariants.{End, Bad}
 use Rattle.types.specs.Record.{head_at, calls_for, rec_at}
 use Rattle.types.specs.Heads.{Fair, FairBound, width_range}
 use Rattle.types.specs.Walks.{opens, walk}
@@ -109,14 +107,14 @@ module _ (d : ℕ) (s E : List ℕ) (p : ℕ) (g : Stands d s E p) where
   payload_is n e x = ap (λ (k : Head). value_in d (is_variant (calls_for k)) s p x) (sym e) ∙ ap (λ ts. payload_of ts x) (treev_in s p d (rec_at s p) (Variant n) (given_levels g.given) refl (ap calls_for (sym e)))
 
   -- a record that is refused is not there
-  nothing_given : (r : types.Rec) (x : Refusal) → r ≡ rec_at s p → ((v : Bool) (k : Bool → ℕ → Walk) → opens v r k ≡ Bad x) → ⊥
+  nothing_given : (r : types.Rec) (x : Refusal) → r ≡ rec_at s p → ((v : Bool) (k : Bool → ℕ → Result ℕ Refusal) → opens v r k ≡ Err x) → ⊥
   unfolding walk
   nothing_given r x e h = go d (is_variant (rec_at s p)) g.given.starts.end g.given.starts.walks
     where
-      refused : (v : Bool) (k : Bool → ℕ → Walk) (m : ℕ) → opens v (rec_at s p) k ≡ End m → ⊥
+      refused : (v : Bool) (k : Bool → ℕ → Result ℕ Refusal) (m : ℕ) → opens v (rec_at s p) k ≡ Ok m → ⊥
       refused v k m w = bad_end (sym (h v k) ∙ ap (λ r. opens v r k) e ∙ w)
 
-      go : (d : ℕ) (v : Bool) (m : ℕ) → walk d v s p ≡ End m → ⊥
+      go : (d : ℕ) (v : Bool) (m : ℕ) → walk d v s p ≡ Ok m → ⊥
       go zero v m w = refused v _ m w
       go (suc d) v m w = refused v _ m w
 

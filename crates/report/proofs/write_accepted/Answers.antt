@@ -6,13 +6,13 @@ use Rattle.report.specs.Laws.{lowered_ready, shape_fits, frame_fits, shape_ready
 use Rattle.report.proofs.write_accepted.Goals as goal
 
 pub write_lowered-n-requires : goal.write_lowered-n-requires
-write_lowered-n-requires c = record { given = c.requires.accepted.given; room = search (lowered_ready c.requires.accepted, rules); lefts_value = search rules }
+write_lowered-n-requires c = record { given = c.requires.accepted.given; room = search (lowered_ready c.requires.accepted, rules) }
 
 pub write_shape-m-requires : goal.write_shape-m-requires
-write_shape-m-requires c = record { given = c.requires.accepted.given; ready = shape_ready c.requires.accepted _ (search rules); lefts_value = search rules }
+write_shape-m-requires c = record { given = c.requires.accepted.given; ready = shape_ready c.requires.accepted _ (search rules) }
 
 pub write_frame-k-requires : goal.write_frame-k-requires
-write_frame-k-requires c = record { given = c.requires.accepted.given; wide = c.requires.accepted.wide; room = frame_ready c.requires.accepted _ (search rules); lefts_value = search rules }
+write_frame-k-requires c = record { given = c.requires.accepted.given; wide = c.requires.accepted.wide; room = frame_ready c.requires.accepted _ (search rules) }
 
 pub slice_bounds-lowered-end : goal.slice_bounds-lowered-end
 slice_bounds-lowered-end c = (wrote_counts (search (lowered_ready c.requires.accepted, rules)) c.write_lowered-n.ensures).0

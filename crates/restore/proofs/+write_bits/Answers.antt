@@ -42,7 +42,7 @@ overflow_add-q t c = let s = sides c.btree_split_index-few.ensures c.requires.le
 pub write_bits-mid-requires : goal.write_bits-mid-requires
 write_bits-mid-requires t c = let s = sides c.btree_split_index-few.ensures c.requires.le_n.0 c.if-n-eq1.false in
     let l = s.less in
-    (omega arith, ((s.some, omega arith, c.requires.le_n.2, omega arith), (left_bits _ _ _ c.requires.found s, c.requires.lefts_value)))
+    (omega arith, ((s.some, omega arith, c.requires.le_n.2, omega arith), left_bits _ _ _ c.requires.found s))
 
 pub overflow_add-j : goal.overflow_add-j
 overflow_add-j t c = let s = sides c.btree_split_index-few.ensures c.requires.le_n.0 c.if-n-eq1.false in
@@ -54,7 +54,7 @@ write_bits-requires t c = let s = sides c.btree_split_index-few.ensures c.requir
     let v = c.write_bits-mid.ensures in
     let l = s.less in
     let i = s.some in
-    (omega arith, ((omega arith, omega arith, v.wrote.same ∙ c.requires.le_n.2, omega arith), (right_bits _ _ _ c.requires.found s v, c.requires.lefts_value)))
+    (omega arith, ((omega arith, omega arith, v.wrote.same ∙ c.requires.le_n.2, omega arith), right_bits _ _ _ c.requires.found s v))
 
 pub shape_of-int : goal.shape_of-int
 shape_of-int t c = c.write_bits.ensures.wrote.same ∙ c.write_bits-mid.ensures.wrote.same

@@ -3,8 +3,8 @@ use borrow.Author.Rules.{rules}
 use Rattle.restore.specs.Laws.Places.{passed, not_passed}
 use Rattle.restore.proofs.pass.Goals as goal
 
-pub returns-in-At : goal.returns-in-At
-returns-in-At c = search (passed, rules)
+pub returns-in-Some : goal.returns-in-Some
+returns-in-Some c = search (passed, rules)
 
-pub returns-in-Nothing : goal.returns-in-Nothing
-returns-in-Nothing c = absurd (search (not_passed, rules))
+pub returns-in-None : goal.returns-in-None
+returns-in-None c = absurd (search (not_passed, rules))

@@ -7,9 +7,8 @@ use Prim.Native.Nat.{ℕ, zero, suc, ◌+◌, ◌-◌, ◌^◌, ◌<◌}
 use Rattle.std.proofs.Math.Nat.{two-pow-succ, one-le-pow}
 use native.Mathlib.Omega.{arith}
 use Rattle.std.proofs.Math.ListN.{length}
-use Rattle.std.specs.Prelude.{get_or}
+use Rattle.std.specs.Prelude.{get_or, Some, None}
 use Rattle.num.specs.declared.NonZeroPow2Usize.{NonZeroPow2Usize}
-use Rattle.num.specs.declared.Bound.TheVariants as bounds
 use Rattle.num.specs.Powers.{bound, bound_log2, half_bound}
 use Rattle.num.specs.Laws.{bounded, bound_power, half_bound_two, half_bound_more}
 use Rattle.model.specs.Options.{map_o, bind_o}
@@ -37,15 +36,15 @@ record Half (b h : NonZeroPow2Usize) : Type 0 where
   log2 : bound_log2 h.0 ≡ suc exponent
   twice : bound_log2 b.0 - 1 ≡ suc exponent
 
-half : {b h : NonZeroPow2Usize} → FairBound b → bounds.Of h ≡ half_bound b.0 → Half b h
+half : {b h : NonZeroPow2Usize} → FairBound b → Some h ≡ half_bound b.0 → Half b h
 half {b} {h} f q = go f.exponent (power_of f)
   where
     go : (n : ℕ) → Power b n → Half b h
     go zero k =
-        let m : half_bound b.0 ≡ bounds.Not = ap half_bound k.power ∙ sym half_bound_two in
+        let m : half_bound b.0 ≡ None = ap half_bound k.power ∙ sym half_bound_two in
         let z : ◌≡◌ {A = ℕ} 0 1 = cc in absurd (omega arith)
     go (suc n) k =
-        let m : half_bound b.0 ≡ bounds.Of (bound (2 ^ suc n)) = ap half_bound k.power ∙ sym (half_bound_more n) in
+        let m : half_bound b.0 ≡ Some (bound (2 ^ suc n)) = ap half_bound k.power ∙ sym (half_bound_more n) in
         let j : h ≡ bound (2 ^ suc n) = cc in
         let a = bound_power n (omega arith) in
         rw j (record {
@@ -105,14 +104,14 @@ module _ (sh : List ℕ) (d : ℕ) (s : List ℕ) where
   -- LISTS
 
   -- with the bound 2 a list is a block of 1
-  pub list_two : {b : NonZeroPow2Usize} (p q : ℕ) → FairBound b → bounds.Not ≡ half_bound b.0 → made_at sh (elements d s b p) q ≡ made_at sh (blocked d s 1 p) q
+  pub list_two : {b : NonZeroPow2Usize} (p q : ℕ) → FairBound b → None ≡ half_bound b.0 → made_at sh (elements d s b p) q ≡ made_at sh (blocked d s 1 p) q
   unfolding elements blocked combine
   list_two {b} p q f h = made_same sh (elements d s b p) (blocked d s 1 p) q (λ x. go x f.exponent (power_of f))
     where
       go : (x : SValue) (e : ℕ) → Power b e → bind_o (combine (bound_log2 b.0 - 1) x) (numbered_row p) ≡ bind_o (as_block 1 x) (numbered_row p)
       go x zero k = rw k.log2 refl
       go x (suc e) k =
-          let m : half_bound b.0 ≡ bounds.Of (bound (2 ^ suc e)) = ap half_bound k.power ∙ sym (half_bound_more e) in
+          let m : half_bound b.0 ≡ Some (bound (2 ^ suc e)) = ap half_bound k.power ∙ sym (half_bound_more e) in
           let z : ◌≡◌ {A = ℕ} 0 1 = cc in absurd (omega arith)
 
   -- with a larger one it is a pair of a block of the half, and the list with that bound
@@ -178,7 +177,7 @@ module _ (sh : List ℕ) (d : ℕ) (s : List ℕ) where
       let (ys, w, z) = map_o_some _ (combine k.exponent y) zs v in
       halves_in k x y (pair_at x y t) xs ys u w (both_rows p i rs xs ys (ap (numbered_row p) z ∙ c))
 
-  pub list_more : {b h : NonZeroPow2Usize} (p q i : ℕ) (rs : List Rec) (e : ℕ) → FairBound b → bounds.Of h ≡ half_bound b.0 → made_at sh (elements d s b p) q ≡ some ((i, rs), e) → Halves b h p q i rs e
+  pub list_more : {b h : NonZeroPow2Usize} (p q i : ℕ) (rs : List Rec) (e : ℕ) → FairBound b → Some h ≡ half_bound b.0 → made_at sh (elements d s b p) q ≡ some ((i, rs), e) → Halves b h p q i rs e
   unfolding elements
   list_more {b} {h} p q i rs e f k g =
       let u = half f k in

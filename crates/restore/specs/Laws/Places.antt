@@ -1,13 +1,11 @@
 -- Laws of the trees of a shape file: what a tree's first record is, and where the trees below it stand.
-use Rattle.std.specs.Prelude.{◌≡◌, ℕ, suc, ◌+◌, ◌≤◌, ◌<◌, get_or}
+use Rattle.std.specs.Prelude.{◌≡◌, ℕ, suc, ◌+◌, ◌≤◌, ◌<◌, get_or, Option as Optional, Some, None}
 use Rattle.std.proofs.Math.Path.{refl, sym, ap}
 use Rattle.std.proofs.Common.{◌∙◌, add-zero, arith, drop-drop, get_or-drop}
 use mathlib.Core.List.{List, ◌∷◌, ◌++◌, append_assoc}
 use Rattle.std.proofs.Math.Option.{Option, some}
 use Rattle.std.proofs.Math.ListN.{length, drop, length-append, length-drop}
 use Rattle.std.proofs.Math.Seq.{drop_at}
-use Rattle.array.specs.declared.TreeEnd.{TreeEnd}
-use Rattle.array.specs.declared.TreeEnd.TheVariants.{At, Nothing}
 use Rattle.array.specs.Ends.{tree_end_of}
 use Rattle.array.specs.Laws.{tree_end_some}
 use Rattle.model.specs.Structural.{SValue, unit, left, right, pair, shape_records}
@@ -39,11 +37,11 @@ module _ {sh : List ℕ} {q : ℕ} {x : SValue} {e : ℕ} where
       let r : read_shape (length sh) (drop q sh) ≡ some (x, l.behind) = ap (read_shape (length sh)) l.here ∙ read_shape_records (length sh) x l.behind n in
       rw (r, l.end) refl
 
-  lies_end : Lies sh q x e → tree_end_of sh q ≡ At e
+  lies_end : Lies sh q x e → tree_end_of sh q ≡ Some e
   lies_end l =
       let n : length (shape_records x) ≤ length sh = omega (arith, ap length l.here, length-append (shape_records x) l.behind, length-drop q sh) in
       let r : read_shape (length sh) (drop q sh) ≡ some (x, l.behind) = ap (read_shape (length sh)) l.here ∙ read_shape_records (length sh) x l.behind n in
-      (tree_end_some (length sh) sh q (x, l.behind) r).0 ∙ ap At (sym l.end)
+      (tree_end_some (length sh) sh q (x, l.behind) r).0 ∙ ap Some (sym l.end)
 
 -- THE FIRST RECORD
 
@@ -57,8 +55,8 @@ module _ (sh : List ℕ) (q b : ℕ) (l : List ℕ) (h : drop q sh ≡ b ∷ l) 
   next : drop (q + 1) sh ≡ l
   next = sym (drop-drop 1 q sh) ∙ ap (drop 1) h
 
--- a unit has no tree below it
-pub record None (sh : List ℕ) (q e : ℕ) : Type 0 where
+-- a unit has no tree below it: its one record is all of it
+pub record OneRecord (sh : List ℕ) (q e : ℕ) : Type 0 where
   pub inside : q < length sh
   pub end : e ≡ q + 1
 
@@ -102,24 +100,24 @@ module _ {sh : List ℕ} {q e : ℕ} where
         second = stands (record { behind = l.behind; here = v; end = n });
       }
 
-  pub unit_at : tree_at sh q ≡ some (unit, e) → None sh q e
+  pub unit_at : tree_at sh q ≡ some (unit, e) → OneRecord sh q e
   unfolding shape_records
   unit_at h = let l = lies h in record { inside = within sh q 0 _ l.here; end = l.end }
 
 -- WHERE A TREE ENDS
 
 module _ (sh : List ℕ) (q : ℕ) (g : Found (tree_at sh q)) where
-  ends : tree_end_of sh q ≡ At g.end
+  ends : tree_end_of sh q ≡ Some g.end
   ends = lies_end (lies g.there)
 
-  pub passed : (r : TreeEnd) (n : ℕ) → r ≡ tree_end_of sh q → r ≡ At n → Ends (tree_at sh q) n
+  pub passed : (r : Optional ℕ) (n : ℕ) → r ≡ tree_end_of sh q → r ≡ Some n → Ends (tree_at sh q) n
   passed r n h k = let e : g.end ≡ n = at_same _ _ (sym ends ∙ sym h ∙ k) in record { what = g.what; there = g.there ∙ ap (λ i. some (g.what, i)) e }
     where
-      at_same : (i j : ℕ) → At i ≡ At j → i ≡ j
+      at_same : (i j : ℕ) → Some i ≡ Some j → i ≡ j
       at_same i j k = cc
 
-  pub not_passed : (r : TreeEnd) → r ≡ tree_end_of sh q → r ≡ Nothing → ⊥
-  not_passed r h k = let e : At g.end ≡ Nothing = sym ends ∙ sym h ∙ k in let z : ◌≡◌ {A = ℕ} 0 1 = cc in absurd (omega arith)
+  pub not_passed : (r : Optional ℕ) → r ≡ tree_end_of sh q → r ≡ None → ⊥
+  not_passed r h k = let e : Some g.end ≡ None = sym ends ∙ sym h ∙ k in let z : ◌≡◌ {A = ℕ} 0 1 = cc in absurd (omega arith)
 
 -- WHAT IS MADE OF A TREE
 

@@ -14,23 +14,8 @@ ruleset steps = (level_some, next_fits, part_given, part_inside, one_given, bit_
 pub longest_part-longest_record-requires : goal.longest_part-longest_record-requires
 longest_part-longest_record-requires t c = search steps
 
-pub longest_part-offset_bounds-ends-at : goal.longest_part-offset_bounds-ends-at
-longest_part-offset_bounds-ends-at t c = search steps
-
-pub longest_part-bounds-ends-at : goal.longest_part-bounds-ends-at
-longest_part-bounds-ends-at t c = search steps
-
 pub longest_part-longest_record-requires-in-Types : goal.longest_part-longest_record-requires-in-Types
 longest_part-longest_record-requires-in-Types t c = search steps
-
-pub longest_part-offset_bounds-ends-at-in-Choices : goal.longest_part-offset_bounds-ends-at-in-Choices
-longest_part-offset_bounds-ends-at-in-Choices t c = search steps
-
-pub longest_part-bounds-ends-at-in-Choices : goal.longest_part-bounds-ends-at-in-Choices
-longest_part-bounds-ends-at-in-Choices t c = search steps
-
-pub longest_part-longest_record-requires-in-Choices : goal.longest_part-longest_record-requires-in-Choices
-longest_part-longest_record-requires-in-Choices t c = search steps
 
 pub longest_part-returns-in-Bits : goal.longest_part-returns-in-Bits
 longest_part-returns-in-Bits t c = search steps
@@ -39,13 +24,22 @@ pub longest_part-returns-in-Copies : goal.longest_part-returns-in-Copies
 longest_part-returns-in-Copies t c = search steps
 
 pub longest_part-returns-in-Types : goal.longest_part-returns-in-Types
-longest_part-returns-in-Types t c = search steps
+longest_part-returns-in-Types t c = rw c.end.ensures (search steps)
 
 pub longest_part-returns-in-Choices : goal.longest_part-returns-in-Choices
-longest_part-returns-in-Choices t c = search steps
+longest_part-returns-in-Choices t c = rw c.end-in-Choices.ensures (search steps)
 
-pub longest_record-head_at-requires : goal.longest_record-head_at-requires
-longest_record-head_at-requires t c = search steps
+pub longest_part-longest_record-requires-in-Choices : goal.longest_part-longest_record-requires-in-Choices
+longest_part-longest_record-requires-in-Choices t c = search steps
+
+pub longest_part-end-requires-in-Choices : goal.longest_part-end-requires-in-Choices
+longest_part-end-requires-in-Choices t c = search steps
+
+pub longest_part-end-requires : goal.longest_part-end-requires
+longest_part-end-requires t c = search steps
+
+pub longest_record-head-requires : goal.longest_record-head-requires
+longest_record-head-requires t c = search steps
 
 pub longest_record-form_of-requires : goal.longest_record-form_of-requires
 longest_record-form_of-requires t c = search steps
@@ -58,10 +52,10 @@ longest_record-overflow_sub-level t c = search steps
 
 pub longest_record-longest_tree-requires : goal.longest_record-longest_tree-requires
 longest_record-longest_tree-requires t c =
-    let i = as_tree c.requires.stands _ _ c.in-Tree.parts c.in-Tree.n c.head_at.ensures.0 c.head_at.ensures.1 c.form_of.ensures c.in-Tree.is in
+    let i = as_tree c.requires.stands _ _ c.in-Tree.parts c.in-Tree.n c.head.ensures.0 c.head.ensures.1 c.form_of.ensures c.in-Tree.is in
     let l = level_some c.requires.stands in
     let few = i.few in
-    (omega arith, (i.few, (i.given, (tree_small i c.requires.small, search rules))))
+    (omega arith, (i.few, (i.given, tree_small i c.requires.small)))
 
 pub longest_record-overflow_add-at-in-List : goal.longest_record-overflow_add-at-in-List
 longest_record-overflow_add-at-in-List t c = search steps
@@ -71,23 +65,23 @@ longest_record-overflow_sub-level-in-List t c = search steps
 
 pub longest_record-longest_record-most-requires : goal.longest_record-longest_record-most-requires
 longest_record-longest_record-most-requires t c =
-    let i = as_list c.requires.stands _ _ c.in-List.bound c.head_at.ensures.0 c.head_at.ensures.1 c.form_of.ensures c.in-List.is in
+    let i = as_list c.requires.stands _ _ c.in-List.bound c.head.ensures.0 c.head.ensures.1 c.form_of.ensures c.in-List.is in
     let l = level_some c.requires.stands in
-    (omega arith, (i.given, (element_small i c.requires.small, search rules)))
+    (omega arith, (i.given, element_small i c.requires.small))
 
 pub longest_record-longest_list-requires : goal.longest_record-longest_list-requires
 longest_record-longest_list-requires t c =
-    let i = as_list c.requires.stands _ _ c.in-List.bound c.head_at.ensures.0 c.head_at.ensures.1 c.form_of.ensures c.in-List.is in
+    let i = as_list c.requires.stands _ _ c.in-List.bound c.head.ensures.0 c.head.ensures.1 c.form_of.ensures c.in-List.is in
     record { fair_bound = i.fair; most_le_most_shape_records = element_short i _ c.requires.small c.longest_record-most.ensures }
 
 pub longest_record-returns-in-Tree : goal.longest_record-returns-in-Tree
 longest_record-returns-in-Tree t c =
-    let i = as_tree c.requires.stands _ _ c.in-Tree.parts c.in-Tree.n c.head_at.ensures.0 c.head_at.ensures.1 c.form_of.ensures c.in-Tree.is in
+    let i = as_tree c.requires.stands _ _ c.in-Tree.parts c.in-Tree.n c.head.ensures.0 c.head.ensures.1 c.form_of.ensures c.in-Tree.is in
     tree_counted i c.longest_tree.ensures
 
 pub longest_record-returns-in-List : goal.longest_record-returns-in-List
 longest_record-returns-in-List t c =
-    let i = as_list c.requires.stands _ _ c.in-List.bound c.head_at.ensures.0 c.head_at.ensures.1 c.form_of.ensures c.in-List.is in
+    let i = as_list c.requires.stands _ _ c.in-List.bound c.head.ensures.0 c.head.ensures.1 c.form_of.ensures c.in-List.is in
     list_counted i _ _ c.longest_record-most.ensures c.longest_list.ensures
 
 pub longest_tree-returns-then-n-eq0 : goal.longest_tree-returns-then-n-eq0
@@ -107,7 +101,7 @@ longest_tree-longest_part-one-requires t c =
     let z = c.if-n-eq0.false in
     let some : 1 ≤ c.args.n = omega arith in
     let same = sym c.are_same.ensures ∙ c.if-are_same.true in
-    (omega arith, (given_one c.requires.given_parts some, (same_small _ _ _ _ _ same some c.requires.small, search rules)))
+    (omega arith, (given_one c.requires.given_parts some, same_small _ _ _ _ _ same some c.requires.small))
 
 pub longest_tree-longest_same-requires : goal.longest_tree-longest_same-requires
 longest_tree-longest_same-requires t c =
@@ -129,7 +123,7 @@ longest_tree-btree_split_index-few-requires t c = search steps
 pub longest_tree-longest_tree-left-requires : goal.longest_tree-longest_tree-left-requires
 longest_tree-longest_tree-left-requires t c =
     let l = shares_else c.btree_split_index-few.ensures c.if-n-eq0.false c.if-n-eq1.false in
-    (omega arith, (omega arith, (left_given l c.requires.given_parts, (left_small _ _ _ _ _ _ _ c.btree_split_index-few.ensures c.if-n-eq0.false c.if-n-eq1.false refl c.requires.small, search rules))))
+    (omega arith, (omega arith, (left_given l c.requires.given_parts, left_small _ _ _ _ _ _ _ c.btree_split_index-few.ensures c.if-n-eq0.false c.if-n-eq1.false refl c.requires.small)))
 
 pub longest_tree-overflow_sub-n : goal.longest_tree-overflow_sub-n
 longest_tree-overflow_sub-n t c =
@@ -138,7 +132,7 @@ longest_tree-overflow_sub-n t c =
 pub longest_tree-longest_tree-right-requires : goal.longest_tree-longest_tree-right-requires
 longest_tree-longest_tree-right-requires t c =
     let l = shares_else c.btree_split_index-few.ensures c.if-n-eq0.false c.if-n-eq1.false in
-    (omega arith, (omega arith, (right_given l c.requires.given_parts c.longest_tree-left.ensures.next, (right_small _ _ _ _ _ _ _ c.btree_split_index-few.ensures c.if-n-eq0.false c.if-n-eq1.false c.longest_tree-left.ensures.next c.requires.small, search rules))))
+    (omega arith, (omega arith, (right_given l c.requires.given_parts c.longest_tree-left.ensures.next, right_small _ _ _ _ _ _ _ c.btree_split_index-few.ensures c.if-n-eq0.false c.if-n-eq1.false c.longest_tree-left.ensures.next c.requires.small)))
 
 pub longest_tree-longest_joint-requires : goal.longest_tree-longest_joint-requires
 longest_tree-longest_joint-requires t c =

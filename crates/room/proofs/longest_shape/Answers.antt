@@ -6,7 +6,7 @@ use Rattle.structural.proofs.Laws.Forms.{stands, standing_is}
 use Rattle.room.proofs.longest_shape.Goals as goal
 
 pub longest_record-requires : goal.longest_record-requires
-longest_record-requires c = record { stands = stands c.requires.given; small = rw (standing_is c.requires.given) c.requires.small; lefts_value = search rules }
+longest_record-requires c = record { stands = stands c.requires.given; small = rw (standing_is c.requires.given) c.requires.small }
 
 pub returns : goal.returns
 returns c = c.longest_record.ensures ∙ ap longest_shape (standing_is c.requires.given)

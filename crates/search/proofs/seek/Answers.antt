@@ -4,10 +4,10 @@ use Rattle.search.specs.Laws.Seeks.{seek_none, seek_fitted, seek_length, seek_sa
 use Rattle.search.proofs.seek.Goals as goal
 
 pub write_record-requires : goal.write_record-requires
-write_record-requires c = record { stands = stands c.requires.given; wide = c.requires.wide; fitted = seek_fitted c.requires.given _ c.check_part.ensures c.in-Next.is c.requires.wide _ c.requires.bits_len; lefts_value = c.requires.lefts_value }
+write_record-requires c = record { stands = stands c.requires.given; wide = c.requires.wide; fitted = seek_fitted c.requires.given _ c.check_part.ensures c.in-Ok.is c.requires.wide _ c.requires.bits_len }
 
-pub returns-in-Bad : goal.returns-in-Bad
-returns-in-Bad c = record { says = seek_none c.requires.given _ c.check_part.ensures c.in-Bad.is; bits_len_2 = c.requires.bits_len }
+pub returns-in-Err : goal.returns-in-Err
+returns-in-Err c = record { says = seek_none c.requires.given _ c.check_part.ensures c.in-Err.is; bits_len_2 = c.requires.bits_len }
 
-pub returns-in-Next : goal.returns-in-Next
-returns-in-Next c = let checked = c.check_part.ensures in let wrote = c.write_record.ensures in record { says = seek_said c.requires.given _ checked c.in-Next.is wrote; bits_len_2 = seek_length c.requires.given _ checked c.in-Next.is wrote c.requires.bits_len }
+pub returns-in-Ok : goal.returns-in-Ok
+returns-in-Ok c = let checked = c.check_part.ensures in let wrote = c.write_record.ensures in record { says = seek_said c.requires.given _ checked c.in-Ok.is wrote; bits_len_2 = seek_length c.requires.given _ checked c.in-Ok.is wrote c.requires.bits_len }

@@ -1,13 +1,11 @@
 -- The answers of the whole search, from those of its loops; and that a place which is the same in all frames lies inside each.
-use Rattle.std.specs.Prelude.{◌≡◌, refl, Bool, true, false, List, [], ◌∷◌, ℕ, zero, suc, ◌+◌, ◌-◌, ◌*◌, ◌%◌, ◌/◌, ◌≤◌, ◌<◌, length, get_or, take, drop}
+use Rattle.std.specs.Prelude.{◌≡◌, refl, Bool, true, false, List, ℕ, ◌+◌, ◌-◌, ◌*◌, ◌%◌, ◌/◌, ◌≤◌, ◌<◌, length, get_or, take, drop, Option as Optional, Some, None, Ok}
 use Rattle.std.proofs.Common.{sym, ap, ◌∙◌, arith}
-use Rattle.std.proofs.Math.Option.{none, some}
+use Rattle.std.proofs.Math.Option.{none}
 use Rattle.model.specs.Numbers.{no_bytes, day_length, path_odd}
 use Rattle.model.specs.Outcome.{done}
-use Rattle.model.specs.Bytes.{Bytes}
 use Rattle.model.specs.Lowering.{lower}
-use Rattle.model.specs.Values.{Value, Valid}
-use Rattle.model.specs.Frames.{after, width, frame_bytes, frame_file, unframe}
+use Rattle.model.specs.Frames.{after, width, frame_bytes, frame_file}
 use Rattle.model.specs.Operations.{lowering}
 use Rattle.model.specs.DayFiles.{frame_at, frames_in, searchable, Matches}
 use Rattle.model.specs.Calls.{Search}
@@ -16,19 +14,15 @@ use Rattle.model.proofs.Laws.Room.{reached_by}
 use Rattle.model.proofs.Laws.TypeFiles.{byte_at}
 use Rattle.model.proofs.Laws.Lowering.{known}
 use Rattle.model.proofs.Laws.FrameFiles.{frame_read_written, length_frame_file, bytes_frame_file}
-use Rattle.day_files.specs.Laws.Days.{MatchesAt, NoneBefore, frame_at_bytes, row_18, row_19, row_13, no_row, searched_refused, searched_found, searched_none, cut_length}
-use Rattle.reply.specs.declared.Found.{Found}
-use Rattle.reply.specs.declared.Found.TheVariants as found
-use Rattle.reply.specs.Numbers.{found_number, found_at}
+use Rattle.day_files.specs.Laws.Days.{MatchesAt, frame_at_bytes, row_18, row_19, row_13, no_row, searched_refused, searched_found, searched_none, cut_length}
+use Rattle.reply.specs.Numbers.{number_of, found_at}
 use Rattle.types.specs.Trees.{tree, type_in}
 use Rattle.types.specs.Steps.{Given, given_within}
 use Rattle.bits.specs.Bits.{Inside}
 use Rattle.bits.specs.Laws.Integers.{bytes_each}
 use Rattle.told.specs.Widths.{Wide}
 use Rattle.accept.specs.Answers.{Lowered}
-use Rattle.part.specs.declared.Place.{Place}
-use Rattle.part.specs.declared.Place.TheVariants.{At}
-use Rattle.part.specs.declared.Target.TheVariants as target
+use Rattle.part.specs.declared.Spot.{Spot}
 use Rattle.part.specs.Forms.{fixed_in}
 use Rattle.part.specs.Holds.{Held}
 use Rattle.part.specs.Laws.Fixed.{found_fixed}
@@ -40,6 +34,10 @@ use Rattle.search.specs.Laws.Looks.{value_opened, accepted_opened, not_said, str
 -- a stretch inside frames of a size lies inside each as it is cut out
 pub cut_inside : (size : ℕ) (day : List ℕ) (i bit w : ℕ) → i < frames_in size day → size ≤ longest → bit + w ≤ 8 * size → Inside (take (i * size + size - i * size) (drop (i * size) day)) bit w
 cut_inside size day i bit w l m h = (rw (cut_length size day i l) h, omega arith)
+
+-- the bytes for a width that the table tells
+pub sized : {w v : ℕ} → w ≡ v → (w + 7) / 8 ≡ (v + 7) / 8
+sized e = ap (λ w. (w + 7) / 8) e
 
 -- a type that lowers has a value, so that some frame of it is accepted
 pub record Sample (s E : List ℕ) : Type 0 where
@@ -101,23 +99,23 @@ module _ {s : List ℕ} (l : Lowered s) {E W : List ℕ} (g : Given 32 false s E
 
   -- A PLACE THAT IS THE SAME IN ALL FRAMES
 
-  module _ (path : List ℕ) (even : length path % 2 ≡ 0) {p d bit : ℕ} (k : At p d bit ≡ fixed_in s E W path) where
+  module _ (path : List ℕ) (even : length path % 2 ≡ 0) {x : Spot} (k : Some x ≡ fixed_in s E W path) where
     -- of every frame that is accepted
-    pub fixed_arrived : {fr : List ℕ} (o : Opened s E fr) → Arrived s E fr path o p d bit
+    pub fixed_arrived : {fr : List ℕ} (o : Opened s E fr) → Arrived s E fr path o x.at x.level x.bit
     fixed_arrived {fr} o = arrived w o path (found_fixed s E W path even k fr) refl
 
-    pub fixed_given : Given d false s E p
+    pub fixed_given : Given x.level false s E x.at
     fixed_given = (fixed_arrived sample.opened).holding.given
 
     -- it lies inside each
-    pub fixed_inside : {size : ℕ} → size ≡ (get_or W 0 0 + 7) / 8 → (p < length W) × (get_or W p 0 ≤ 32768) × (bit + get_or W p 0 ≤ 8 * size)
+    pub fixed_inside : {size : ℕ} → size ≡ (get_or W 0 0 + 7) / 8 → (x.at < length W) × (get_or W x.at 0 ≤ 32768) × (x.bit + get_or W x.at 0 ≤ 8 * size)
     fixed_inside {size} e =
         let h = (fixed_arrived sample.opened).holding in
-        let i = w.right d p (holding_stands h) ∙ ap width (holding_type h) in
+        let i = w.right x.level x.at (holding_stands h) ∙ ap width (holding_type h) in
         let n = sample.long in
         let m = w.long in
         let j = given_within h.given in
-        (omega arith, w.small d p (holding_stands h), omega (arith, h.inside.0, size_is))
+        (omega arith, w.small x.level x.at (holding_stands h), omega (arith, h.inside.0, size_is))
 
   -- THE ANSWERS
 
@@ -126,29 +124,27 @@ module _ {s : List ℕ} (l : Lowered s) {E W : List ℕ} (g : Given 32 false s E
     frame_bytes_each i j = byte_at (frame_at size day i) j (frame_at_bytes size day i (bytes_each day db))
 
     -- of a loop that looked at each frame as a whole
-    pub led_ended : (r : Found) → Ended (MatchesAt after s day path val size) (frames_in size day) r → Search s day path val (found_number r) (found_at r)
-    led_ended (found.At i) (l, m) = searched_found after s day path val size e i l m
-    led_ended found.Nowhere b = searched_none after s day path val size e b
-    led_ended (found.Refused x) b = absurd b
+    pub led_ended : (r : Optional ℕ) → Ended (MatchesAt after s day path val size) (frames_in size day) r → Search s day path val (number_of (Ok r)) (found_at (Ok r))
+    led_ended (Some i) (l, m) = searched_found after s day path val size e i l m
+    led_ended None b = searched_none after s day path val size e b
 
     -- of the other, where the place is the same in all
-    module _ (even : length path % 2 ≡ 0) {p d bit : ℕ} (k : At p d bit ≡ fixed_in s E W path) {bits : List ℕ} {is : Bool} (q : Says (tree d s p) val bits is) where
+    module _ (even : length path % 2 ≡ 0) {x : Spot} (k : Some x ≡ fixed_in s E W path) {bits : List ℕ} {is : Bool} (q : Says (tree x.level s x.at) val bits is) where
       -- no value is said
       pub fixed_none : is ≡ false → Search s day path val 0 none
       fixed_none z = searched_none after s day path val size e (record { none_yet = λ i _ m. not_said w (fixed_arrived path even k (accepted_opened l g w sb (frame_at size day i) (frame_bytes_each i) m.0)) val vb q z m })
 
-      pub fixed_ended : is ≡ true → (r : Found) → Ended (Stood s E day size bit (get_or W p 0) bits) (frames_in size day) r → Search s day path val (found_number r) (found_at r)
+      pub fixed_ended : is ≡ true → (r : Optional ℕ) → Ended (Stood s E day size x.bit (get_or W x.at 0) bits) (frames_in size day) r → Search s day path val (number_of (Ok r)) (found_at (Ok r))
       fixed_ended z r = go r
         where
-          matches : (i : ℕ) → Stood s E day size bit (get_or W p 0) bits i → Matches after s (frame_at size day i) path val
+          matches : (i : ℕ) → Stood s E day size x.bit (get_or W x.at 0) bits i → Matches after s (frame_at size day i) path val
           matches i h = stretch_matches w (fixed_arrived path even k h.opened) val vb q z sb (frame_bytes_each i) h.same
 
-          stands : (i : ℕ) → Matches after s (frame_at size day i) path val → Stood s E day size bit (get_or W p 0) bits i
+          stands : (i : ℕ) → Matches after s (frame_at size day i) path val → Stood s E day size x.bit (get_or W x.at 0) bits i
           stands i m =
               let o = accepted_opened l g w sb (frame_at size day i) (frame_bytes_each i) m.0 in
               record { opened = o; same = stretch_same w (fixed_arrived path even k o) val vb q z m }
 
-          go : (r : Found) → Ended (Stood s E day size bit (get_or W p 0) bits) (frames_in size day) r → Search s day path val (found_number r) (found_at r)
-          go (found.At i) (l, h) = searched_found after s day path val size e i l (matches i h)
-          go found.Nowhere b = searched_none after s day path val size e (record { none_yet = λ i l m. b.none_yet i l (stands i m) })
-          go (found.Refused x) b = absurd b
+          go : (r : Optional ℕ) → Ended (Stood s E day size x.bit (get_or W x.at 0) bits) (frames_in size day) r → Search s day path val (number_of (Ok r)) (found_at (Ok r))
+          go (Some i) (l, h) = searched_found after s day path val size e i l (matches i h)
+          go None b = searched_none after s day path val size e (record { none_yet = λ i l m. b.none_yet i l (stands i m) })

@@ -1,9 +1,11 @@
 -- Why the part's stretch decides whether a frame matches: reading the part gives the file of the value that stands there, and two values of one type with the same bits are one.
-use Rattle.std.specs.Prelude.{◌≡◌, Bool, true, false, List, ℕ, ◌≤◌, ◌<◌, length, get_or}
+use Rattle.std.specs.Prelude.{◌≡◌, Bool, true, false, List, ℕ, ◌≤◌, ◌<◌, length, get_or, Option as Optional, Result, Ok, Err}
 use Rattle.std.proofs.Math.Path.{refl}
+use Rattle.std.proofs.lemmas.Bool.{false≢true}
+use Rattle.std.specs.Result.{is_ok}
 use Rattle.std.proofs.Common.{sym, ap, subst, ◌∙◌, arith}
-use Rattle.model.specs.Outcome.{Outcome, done, refused}
-use Rattle.model.specs.Bytes.{Bytes, fill}
+use Rattle.model.specs.Outcome.{done}
+use Rattle.model.specs.Bytes.{fill}
 use Rattle.model.specs.Types.{Ty}
 use Rattle.model.specs.Lowering.{lower}
 use Rattle.model.specs.Values.{Value, Valid}
@@ -25,19 +27,16 @@ use Rattle.types.specs.Steps.{Given, given_within}
 use Rattle.bits.specs.Bits.{bits_at, Inside, Tells}
 use Rattle.bits.specs.Laws.Integers.{bytes_each}
 use Rattle.told.specs.Widths.{Wide}
-use Rattle.accept.specs.declared.Accepted.{Accepted}
-use Rattle.accept.specs.declared.Accepted.TheVariants as accepts
 use Rattle.accept.specs.Answers.{Lowered, accepted, outcome_of}
 use Rattle.delivery.specs.Values.{value_valid}
-use Rattle.part.specs.declared.Target.{Target}
-use Rattle.part.specs.declared.Target.TheVariants as target
+use Rattle.part.specs.declared.Spot.{Spot}
 use Rattle.part.specs.Forms.{found_in}
 use Rattle.part.specs.Laws.Holds.{holding_stands, holding_type}
 use Rattle.edit.specs.Opened.{Opened, opened, frame_refused, Arrived, path_refused}
 use Rattle.edit.specs.Reads.{read_is}
 use Rattle.search.specs.declared.Sought.{Sought}
-use Rattle.search.specs.declared.Look.{Look}
-use Rattle.search.specs.declared.Look.TheVariants.{Match, Not}
+use Rattle.std.specs.declared.ops.ControlFlow.{ControlFlow}
+use Rattle.std.specs.declared.ops.ControlFlow.TheVariants.{Break, Continue}
 use Rattle.search.specs.Forms.{Says, Kept, Looked}
 
 -- FRAMES THAT ARE ACCEPTED, AND NOT
@@ -46,7 +45,7 @@ module _ {s : List ℕ} (l : Lowered s) {E W : List ℕ} (g : Given 32 false s E
   -- the frame of a value
   pub value_opened : (v : Value (tree 32 s 0)) → unframe after (tree 32 s 0) fr ≡ done v → Opened s E fr
   unfolding accepted type_in
-  value_opened v e = opened l fr (accepts.Records (length (encode (tree 32 s 0) v))) (rw e refl) g w sb fb refl
+  value_opened v e = opened l fr (Ok (length (encode (tree 32 s 0) v))) (rw e refl) g w sb fb refl
 
   pub accepted_opened : FrameAccepted after s fr → Opened s E fr
   unfolding unframed type_in
@@ -57,13 +56,16 @@ module _ {s : List ℕ} (l : Lowered s) {E W : List ℕ} (g : Given 32 false s E
       let (v, h, _) = outcome_step (unframe after (tree 32 s 0) fr) _ val (rw z at f) in
       value_opened v h
 
-  module _ (c : Accepted) (k : outcome_of c ≡ accepted (type_in s) fr) where
+  module _ (c : Result ℕ Refusal) (k : outcome_of c ≡ accepted (type_in s) fr) where
     -- rows 11 and 12
-    pub not_opened : {x : Refusal} → c ≡ accepts.Refused x → Opened s E fr → ⊥
+    pub not_opened : {x : Refusal} → c ≡ Err x → Opened s E fr → ⊥
     not_opened h o = refused_done _ _ (sym (frame_refused l fr c k h).1 ∙ o.reads)
 
-    pub not_accepted : {x : Refusal} → c ≡ accepts.Refused x → (path val : List ℕ) → Matches after s fr path val → ⊥
-    not_accepted {x} h path val m = not_opened h (accepted_opened m.0)
+-- what `accept` answers tells whether the frame is accepted
+pub accepted_told : {s : List ℕ} (l : Lowered s) {E W : List ℕ} (g : Given 32 false s E 0) (w : Wide s E W) (sb : (i : ℕ) → get_or s i 0 < 256) (fr : List ℕ) (fb : (i : ℕ) → get_or fr i 0 < 256) (c : Result ℕ Refusal)
+    → outcome_of c ≡ accepted (type_in s) fr → {b : Bool} → b ≡ is_ok c → Tells b (Opened s E fr)
+accepted_told l g w sb fr fb (Ok n) k e = record { yes = λ _. opened l fr (Ok n) k g w sb fb refl; no = λ z. absurd (false≢true (sym z ∙ e)) }
+accepted_told l g w sb fr fb (Err x) k e = record { yes = λ z. absurd (false≢true (sym e ∙ z)); no = λ _. not_opened l g w sb fr fb (Err x) k refl }
 
 -- A PART
 
@@ -72,10 +74,11 @@ same_frame : (t : Ty) (v w : Value t) → Valid t v → Valid t w → frame afte
 unfolding frame_file
 same_frame t v w h k e = done_injective v w (sym (frame_read_written after t v h) ∙ ap (λ l. unframe after t (fill l)) e ∙ frame_read_written after t w k)
 
--- a path that is refused leads to no part
-pub no_part : {s E W fr : List ℕ} (w : Wide s E W) (o : Opened s E fr) (path val : List ℕ) {r : Target} → r ≡ found_in s E W fr path → {x : Refusal} → r ≡ target.Refused x → Matches after s fr path val → ⊥
+-- a path that leads to no place leads to no part
+pub no_part : {s E W fr : List ℕ} (w : Wide s E W) (o : Opened s E fr) (path val : List ℕ) (r : Result Spot Refusal) → r ≡ found_in s E W fr path → ((x : Spot) → r ≡ Ok x → ⊥) → Matches after s fr path val → ⊥
 unfolding part_read
-no_part {s} w o path val e {x} h m = refused_done (refusal_number x) val (sym (rw (o.lowers, o.reads) (path_refused w o path e (λ f. done (part_records f (value_file (tree 32 s 0) o.value))) h)) ∙ m.1)
+no_part w o path val (Ok x) e n m = absurd (n x refl)
+no_part {s} w o path val (Err x) e n m = refused_done (refusal_number x) val (sym (rw (o.lowers, o.reads) (path_refused w o path e (λ f. done (part_records f (value_file (tree 32 s 0) o.value))) refl)) ∙ m.1)
 
 module _ {s E W fr path : List ℕ} (w : Wide s E W) {o : Opened s E fr} {p d b : ℕ} (a : Arrived s E fr path o p d b) where
   abbrev own : Ty
@@ -131,9 +134,9 @@ module _ {s E W fr path : List ℕ} (w : Wide s E W) {o : Opened s E fr} {p d b 
 
 -- WHAT A LOOK ANSWERS
 
-module _ (s fr path val bits : List ℕ) (r : Look) (q : Looked s fr path val bits r) where
-  pub looked_match : r ≡ Match → Matches after s fr path val
+module _ (s fr path val bits : List ℕ) (r : ControlFlow Unit (Optional Sought)) (q : Looked s fr path val bits r) where
+  pub looked_match : {u : Unit} → r ≡ Break u → Matches after s fr path val
   looked_match e = rw e at q
 
-  pub looked_not : {x : Sought} → r ≡ Not x → (Matches after s fr path val → ⊥) × Kept s val bits x
+  pub looked_not : {x : Optional Sought} → r ≡ Continue x → (Matches after s fr path val → ⊥) × Kept s val bits x
   looked_not e = rw e at q

@@ -1,14 +1,13 @@
 -- What `seek` knows: the check of the value file tells the value, whose bits the writer puts in the front of the buffer.
-use Rattle.std.specs.Prelude.{◌≡◌, refl, Bool, true, false, List, ◌++◌, ℕ, ◌+◌, ◌/◌, ◌≤◌, ◌<◌, length, take, drop}
+use Rattle.std.specs.Prelude.{◌≡◌, true, false, List, ℕ, ◌/◌, length, take, Result, Ok, Err}
 use Rattle.std.proofs.Common.{sym, ap, ◌∙◌, arith, take_at}
 use Rattle.std.proofs.lemmas.Bool.{false≢true}
 use Rattle.std.proofs.Math.Option.{some}
-use Rattle.model.specs.Outcome.{done, refused}
-use Rattle.model.specs.Bytes.{bits_of}
+use Rattle.model.specs.Outcome.{done}
 use Rattle.model.specs.Lowering.{lower}
 use Rattle.model.specs.Values.{Value, inject}
 use Rattle.model.specs.ValueFiles.{value_of}
-use Rattle.model.specs.Frames.{after, width, bits, frame}
+use Rattle.model.specs.Frames.{after, width, frame}
 use Rattle.model.proofs.Laws.Outcome.{refused_done}
 use Rattle.model.proofs.Laws.FrameFiles.{length_frame}
 use Rattle.reply.specs.declared.Refusal.{Refusal}
@@ -17,9 +16,7 @@ use Rattle.types.specs.Steps.{Given}
 use Rattle.types.specs.Lows.{low}
 use Rattle.structural.specs.Forms as structural
 use Rattle.structural.proofs.Laws.Forms.{stands, standing_is}
-use Rattle.bits.specs.Bits.{Inside, bits_at, Wrote}
-use Rattle.value.specs.declared.Checked.{Checked}
-use Rattle.value.specs.declared.Checked.TheVariants.{Next, Bad}
+use Rattle.bits.specs.Bits.{Inside, Wrote}
 use Rattle.value.specs.Check.{file_answer}
 use Rattle.told.specs.Forms as told
 use Rattle.told.specs.Laws.Whole.{whole_told}
@@ -27,9 +24,7 @@ use Rattle.told.specs.Widths.{Wide}
 use Rattle.frame.specs.Forms.{frame_at, Fitted, Framed}
 use Rattle.frame.proofs.Laws.Told.{shape_fitted, shape_framed}
 use Rattle.delivery.specs.Values.{value_refused, value_read, value_valid}
-use Rattle.search.specs.declared.Sought.{Sought}
-use Rattle.search.specs.declared.Sought.TheVariants.{Of}
-use Rattle.search.specs.Forms.{longest, Says, Kept}
+use Rattle.search.specs.Forms.{longest, Says}
 
 module _ {d : ℕ} {s E : List ℕ} {p : ℕ} (g : Given d false s E p) where
   -- the lowered type that stands at the record
@@ -41,11 +36,11 @@ module _ {d : ℕ} {s E : List ℕ} {p : ℕ} (g : Given d false s E p) where
   pub seek_inside : {W : List ℕ} → Wide s E W → (buf : List ℕ) → length buf ≡ longest → Inside buf 0 (width (structural.standing d s p))
   seek_inside w buf l = let i = w.right d p (stands g) in let j = w.small d p (stands g) in (omega arith, omega arith)
 
-  module _ (val : List ℕ) {c : Checked} (k : c ≡ file_answer (tree d s p) val) where
-    pub seek_none : {x : Refusal} → c ≡ Bad x → {buf : List ℕ} → Says (tree d s p) val buf false
+  module _ (val : List ℕ) {c : Result (ℕ × ℕ) Refusal} (k : c ≡ file_answer (tree d s p) val) where
+    pub seek_none : {x : Refusal} → c ≡ Err x → {buf : List ℕ} → Says (tree d s p) val buf false
     seek_none h = record { one = λ z. absurd (false≢true z); none_said = λ _ v e. refused_done _ v (sym (value_refused (tree d s p) val k h) ∙ e) }
 
-    module _ {i size : ℕ} (h : c ≡ Next i size) where
+    module _ {i size : ℕ} (h : c ≡ Ok (i, size)) where
       value : Value (tree d s p)
       value = (value_read (tree d s p) val k h).had
 
@@ -73,7 +68,3 @@ module _ {d : ℕ} {s E : List ℕ} {p : ℕ} (g : Given d false s E p) where
           one = λ _. (value, value_is, ap (take (width (lower (tree d s p)))) wrote.bits ∙ take_at (frame after (tree d s p) value) _ (width (lower (tree d s p))) (length_frame after (tree d s p) value (value_valid (tree d s p) val value value_is)));
           none_said = λ z. absurd (false≢true (sym z));
         }
-
--- the bits are of that type already
-pub kept_same : (s val bits : List ℕ) (x : Sought) → Kept s val bits x → {p d q e : ℕ} {is : Bool} → x ≡ Of p d is → p ≡ q → d ≡ e → Says (tree e s q) val bits is
-kept_same s val bits x k {p} {d} {q} {e} {is} h i j = rw (← i, ← j) (rw h at k)

@@ -20,7 +20,7 @@ pub bounds-out-0 : goal.bounds-out-0
 bounds-out-0 t c = search (room_some, rules)
 
 pub btree_split_index-few-requires : goal.btree_split_index-few-requires
-btree_split_index-few-requires t c = let o = c.if-n-eq1.false in record { le_n = (omega arith, omega arith); lefts_value = search rules }
+btree_split_index-few-requires t c = let o = c.if-n-eq1.false in (omega arith, omega arith)
 
 pub overflow_sub-others : goal.overflow_sub-others
 overflow_sub-others t c =
@@ -40,7 +40,7 @@ pub write_bits-k-requires : goal.write_bits-k-requires
 write_bits-k-requires t c =
     let fork = bits_fork c.requires.bits_there c.btree_split_index-few.ensures c.if-n-eq1.false c.args.out.now c.requires.room in
     let there = few_there c.requires.bits_there c.btree_split_index-few.ensures c.if-n-eq1.false in
-    let l = few_less c.requires.bits_there c.btree_split_index-few.ensures c.if-n-eq1.false in (omega arith, (there, (left_room fork, search rules)))
+    let l = few_less c.requires.bits_there c.btree_split_index-few.ensures c.if-n-eq1.false in (omega arith, (there, left_room fork))
 
 pub overflow_add-k : goal.overflow_add-k
 overflow_add-k t c =
@@ -68,7 +68,7 @@ write_bits-requires t c =
     let some = few_there c.requires.bits_there c.btree_split_index-few.ensures c.if-n-eq1.false in
     let l = few_less c.requires.bits_there c.btree_split_index-few.ensures c.if-n-eq1.false in
     let b = some.some_bits in
-    (omega arith, (there, (right_room fork c.write_bits-k.ensures, search rules)))
+    (omega arith, (there, right_room fork c.write_bits-k.ensures))
 
 pub overflow_add-result : goal.overflow_add-result
 overflow_add-result t c =

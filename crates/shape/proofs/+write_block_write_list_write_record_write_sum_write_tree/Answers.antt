@@ -37,12 +37,12 @@ write_block-bounds-out-0-2 t c = search steps
 
 pub write_block-slice_bounds-write_tree-count : goal.write_block-slice_bounds-write_tree-count
 write_block-slice_bounds-write_tree-count t c =
-    let stem = block_stem c.args.level c.args.ty.now c.args.val.now c.args.n c.args.at c.args.v c.args.out.now c.requires.ready (omega arith) in
+    let stem = block_stem c.args.level c.args.table.now.ty.now c.args.val.now c.args.n c.args.at c.args.v c.args.out.now c.requires.ready (omega arith) in
     stem_start stem
 
 pub write_block-slice_bounds-write_tree-start : goal.write_block-slice_bounds-write_tree-start
 write_block-slice_bounds-write_tree-start t c =
-    let stem = block_stem c.args.level c.args.ty.now c.args.val.now c.args.n c.args.at c.args.v c.args.out.now c.requires.ready (omega arith) in
+    let stem = block_stem c.args.level c.args.table.now.ty.now c.args.val.now c.args.n c.args.at c.args.v c.args.out.now c.requires.ready (omega arith) in
     stem_start stem
 
 pub write_block-slice_bounds-write_tree-end : goal.write_block-slice_bounds-write_tree-end
@@ -50,22 +50,22 @@ write_block-slice_bounds-write_tree-end t c = search steps
 
 pub write_block-write_tree-row-requires : goal.write_block-write_tree-row-requires
 write_block-write_tree-row-requires t c =
-    let stem = block_stem c.args.level c.args.ty.now c.args.val.now c.args.n c.args.at c.args.v c.args.out.now c.requires.ready (omega arith) in
-    (omega arith, (c.requires.n_le_most_parts, (given_copies _ c.requires.stands, (stem_ready stem, search rules))))
+    let stem = block_stem c.args.level c.args.table.now.ty.now c.args.val.now c.args.n c.args.at c.args.v c.args.out.now c.requires.ready (omega arith) in
+    (omega arith, (c.requires.n_le_most_parts, (given_copies _ c.requires.stands, stem_ready stem)))
 
 pub write_block-overflow_add-result : goal.write_block-overflow_add-result
 write_block-overflow_add-result t c =
-    let stem = block_stem c.args.level c.args.ty.now c.args.val.now c.args.n c.args.at c.args.v c.args.out.now c.requires.ready (omega arith) in
+    let stem = block_stem c.args.level c.args.table.now.ty.now c.args.val.now c.args.n c.args.at c.args.v c.args.out.now c.requires.ready (omega arith) in
     omega (arith, stem_small stem c.write_tree-row.ensures.0)
 
 pub write_block-shape_of-out : goal.write_block-shape_of-out
 write_block-shape_of-out t c =
-    let stem = block_stem c.args.level c.args.ty.now c.args.val.now c.args.n c.args.at c.args.v c.args.out.now c.requires.ready (omega arith) in
+    let stem = block_stem c.args.level c.args.table.now.ty.now c.args.val.now c.args.n c.args.at c.args.v c.args.out.now c.requires.ready (omega arith) in
     placed_length c.requires.ready (stem_done stem c.write_tree-row.ensures.0)
 
 pub write_block-returns : goal.write_block-returns
 write_block-returns t c =
-    let stem = block_stem c.args.level c.args.ty.now c.args.val.now c.args.n c.args.at c.args.v c.args.out.now c.requires.ready (omega arith) in
+    let stem = block_stem c.args.level c.args.table.now.ty.now c.args.val.now c.args.n c.args.at c.args.v c.args.out.now c.requires.ready (omega arith) in
     stem_done stem c.write_tree-row.ensures.0
 
 pub write_list-checked_div2-requires : goal.write_list-checked_div2-requires
@@ -73,9 +73,9 @@ write_list-checked_div2-requires t c = search steps
 
 pub write_list-write_block-requires : goal.write_list-write_block-requires
 write_list-write_block-requires t c =
-    let e = listed_two c.args.level c.args.ty.now c.args.val.now c.args.m c.args.at c.args.v c.requires.fair_bound.0 (sym c.in-Not.is ∙ c.checked_div2.ensures) in
+    let e = listed_two c.args.level c.args.table.now.ty.now c.args.val.now c.args.m c.args.at c.args.v c.requires.fair_bound.0 (sym c.in-None.is ∙ c.checked_div2.ensures) in
     let m = bound_small c.requires.fair_bound.0 in
-    (omega arith, (omega arith, (c.requires.stands, (ready_as e c.requires.ready, search rules))))
+    (omega arith, (omega arith, (c.requires.stands, ready_as e c.requires.ready)))
 
 pub write_list-bounds-out-0 : goal.write_list-bounds-out-0
 write_list-bounds-out-0 t c = search steps
@@ -88,13 +88,13 @@ write_list-share-n-requires t c = search steps
 
 pub write_list-slice_bounds-write_block-count : goal.write_list-slice_bounds-write_block-count
 write_list-slice_bounds-write_block-count t c =
-    let h = listed_more c.args.level c.args.ty.now c.args.val.now c.args.m c.share-n.result c.args.at c.args.v c.requires.fair_bound.0 (sym c.in-Of.is ∙ c.checked_div2.ensures) c.requires.fair_bound.1 (c.share-n.ensures ∙ ap (block_share c.args.m) c.get.ensures) in
+    let h = listed_more c.args.level c.args.table.now.ty.now c.args.val.now c.args.m c.share-n.result c.args.at c.args.v c.requires.fair_bound.0 (sym c.in-Some.is ∙ c.checked_div2.ensures) c.requires.fair_bound.1 (c.share-n.ensures ∙ ap (block_share c.args.m) c.get.ensures) in
     let pair = list_pair h c.requires.ready in
     pair_start pair
 
 pub write_list-slice_bounds-write_block-start : goal.write_list-slice_bounds-write_block-start
 write_list-slice_bounds-write_block-start t c =
-    let h = listed_more c.args.level c.args.ty.now c.args.val.now c.args.m c.share-n.result c.args.at c.args.v c.requires.fair_bound.0 (sym c.in-Of.is ∙ c.checked_div2.ensures) c.requires.fair_bound.1 (c.share-n.ensures ∙ ap (block_share c.args.m) c.get.ensures) in
+    let h = listed_more c.args.level c.args.table.now.ty.now c.args.val.now c.args.m c.share-n.result c.args.at c.args.v c.requires.fair_bound.0 (sym c.in-Some.is ∙ c.checked_div2.ensures) c.requires.fair_bound.1 (c.share-n.ensures ∙ ap (block_share c.args.m) c.get.ensures) in
     let pair = list_pair h c.requires.ready in
     pair_start pair
 
@@ -103,31 +103,31 @@ write_list-slice_bounds-write_block-end t c = search steps
 
 pub write_list-write_block-left-requires : goal.write_list-write_block-left-requires
 write_list-write_block-left-requires t c =
-    let h = listed_more c.args.level c.args.ty.now c.args.val.now c.args.m c.share-n.result c.args.at c.args.v c.requires.fair_bound.0 (sym c.in-Of.is ∙ c.checked_div2.ensures) c.requires.fair_bound.1 (c.share-n.ensures ∙ ap (block_share c.args.m) c.get.ensures) in
+    let h = listed_more c.args.level c.args.table.now.ty.now c.args.val.now c.args.m c.share-n.result c.args.at c.args.v c.requires.fair_bound.0 (sym c.in-Some.is ∙ c.checked_div2.ensures) c.requires.fair_bound.1 (c.share-n.ensures ∙ ap (block_share c.args.m) c.get.ensures) in
     let pair = list_pair h c.requires.ready in
     let m = bound_small h.fair in
-    (omega arith, (omega arith, (c.requires.stands, (left_ready pair, search rules))))
+    (omega arith, (omega arith, (c.requires.stands, left_ready pair)))
 
 pub write_list-overflow_add-k : goal.write_list-overflow_add-k
 write_list-overflow_add-k t c =
-    let h = listed_more c.args.level c.args.ty.now c.args.val.now c.args.m c.share-n.result c.args.at c.args.v c.requires.fair_bound.0 (sym c.in-Of.is ∙ c.checked_div2.ensures) c.requires.fair_bound.1 (c.share-n.ensures ∙ ap (block_share c.args.m) c.get.ensures) in
+    let h = listed_more c.args.level c.args.table.now.ty.now c.args.val.now c.args.m c.share-n.result c.args.at c.args.v c.requires.fair_bound.0 (sym c.in-Some.is ∙ c.checked_div2.ensures) c.requires.fair_bound.1 (c.share-n.ensures ∙ ap (block_share c.args.m) c.get.ensures) in
     let pair = list_pair h c.requires.ready in
     omega (arith, pair_small pair c.write_block-left.ensures)
 
 pub write_list-overflow_sub-others : goal.write_list-overflow_sub-others
 write_list-overflow_sub-others t c =
-    let h = listed_more c.args.level c.args.ty.now c.args.val.now c.args.m c.share-n.result c.args.at c.args.v c.requires.fair_bound.0 (sym c.in-Of.is ∙ c.checked_div2.ensures) c.requires.fair_bound.1 (c.share-n.ensures ∙ ap (block_share c.args.m) c.get.ensures) in
+    let h = listed_more c.args.level c.args.table.now.ty.now c.args.val.now c.args.m c.share-n.result c.args.at c.args.v c.requires.fair_bound.0 (sym c.in-Some.is ∙ c.checked_div2.ensures) c.requires.fair_bound.1 (c.share-n.ensures ∙ ap (block_share c.args.m) c.get.ensures) in
     omega arith
 
 pub write_list-slice_bounds-write_list-count : goal.write_list-slice_bounds-write_list-count
 write_list-slice_bounds-write_list-count t c =
-    let h = listed_more c.args.level c.args.ty.now c.args.val.now c.args.m c.share-n.result c.args.at c.args.v c.requires.fair_bound.0 (sym c.in-Of.is ∙ c.checked_div2.ensures) c.requires.fair_bound.1 (c.share-n.ensures ∙ ap (block_share c.args.m) c.get.ensures) in
+    let h = listed_more c.args.level c.args.table.now.ty.now c.args.val.now c.args.m c.share-n.result c.args.at c.args.v c.requires.fair_bound.0 (sym c.in-Some.is ∙ c.checked_div2.ensures) c.requires.fair_bound.1 (c.share-n.ensures ∙ ap (block_share c.args.m) c.get.ensures) in
     let pair = list_pair h c.requires.ready in
     pair_fits pair c.write_block-left.ensures
 
 pub write_list-slice_bounds-write_list-start : goal.write_list-slice_bounds-write_list-start
 write_list-slice_bounds-write_list-start t c =
-    let h = listed_more c.args.level c.args.ty.now c.args.val.now c.args.m c.share-n.result c.args.at c.args.v c.requires.fair_bound.0 (sym c.in-Of.is ∙ c.checked_div2.ensures) c.requires.fair_bound.1 (c.share-n.ensures ∙ ap (block_share c.args.m) c.get.ensures) in
+    let h = listed_more c.args.level c.args.table.now.ty.now c.args.val.now c.args.m c.share-n.result c.args.at c.args.v c.requires.fair_bound.0 (sym c.in-Some.is ∙ c.checked_div2.ensures) c.requires.fair_bound.1 (c.share-n.ensures ∙ ap (block_share c.args.m) c.get.ensures) in
     let pair = list_pair h c.requires.ready in
     pair_fits pair c.write_block-left.ensures
 
@@ -136,53 +136,53 @@ write_list-slice_bounds-write_list-end t c = search steps
 
 pub write_list-write_list-right-requires : goal.write_list-write_list-right-requires
 write_list-write_list-right-requires t c =
-    let h = listed_more c.args.level c.args.ty.now c.args.val.now c.args.m c.share-n.result c.args.at c.args.v c.requires.fair_bound.0 (sym c.in-Of.is ∙ c.checked_div2.ensures) c.requires.fair_bound.1 (c.share-n.ensures ∙ ap (block_share c.args.m) c.get.ensures) in
+    let h = listed_more c.args.level c.args.table.now.ty.now c.args.val.now c.args.m c.share-n.result c.args.at c.args.v c.requires.fair_bound.0 (sym c.in-Some.is ∙ c.checked_div2.ensures) c.requires.fair_bound.1 (c.share-n.ensures ∙ ap (block_share c.args.m) c.get.ensures) in
     let pair = list_pair h c.requires.ready in
-    (omega arith, ((h.fair, omega arith), (c.requires.stands, (right_ready pair c.write_block-left.ensures, c.requires.lefts_value))))
+    (omega arith, ((h.fair, omega arith), (c.requires.stands, right_ready pair c.write_block-left.ensures)))
 
 pub write_list-overflow_add-result : goal.write_list-overflow_add-result
 write_list-overflow_add-result t c =
-    let h = listed_more c.args.level c.args.ty.now c.args.val.now c.args.m c.share-n.result c.args.at c.args.v c.requires.fair_bound.0 (sym c.in-Of.is ∙ c.checked_div2.ensures) c.requires.fair_bound.1 (c.share-n.ensures ∙ ap (block_share c.args.m) c.get.ensures) in
+    let h = listed_more c.args.level c.args.table.now.ty.now c.args.val.now c.args.m c.share-n.result c.args.at c.args.v c.requires.fair_bound.0 (sym c.in-Some.is ∙ c.checked_div2.ensures) c.requires.fair_bound.1 (c.share-n.ensures ∙ ap (block_share c.args.m) c.get.ensures) in
     let pair = list_pair h c.requires.ready in
     omega (arith, pair_total pair c.write_block-left.ensures c.write_list-right.ensures)
 
-pub write_list-shape_of-out-in-Not : goal.write_list-shape_of-out-in-Not
-write_list-shape_of-out-in-Not t c =
-    let e = listed_two c.args.level c.args.ty.now c.args.val.now c.args.m c.args.at c.args.v c.requires.fair_bound.0 (sym c.in-Not.is ∙ c.checked_div2.ensures) in
+pub write_list-shape_of-out-in-None : goal.write_list-shape_of-out-in-None
+write_list-shape_of-out-in-None t c =
+    let e = listed_two c.args.level c.args.table.now.ty.now c.args.val.now c.args.m c.args.at c.args.v c.requires.fair_bound.0 (sym c.in-None.is ∙ c.checked_div2.ensures) in
     placed_length c.requires.ready (placed_as e c.write_block.ensures)
 
-pub write_list-returns-in-Not : goal.write_list-returns-in-Not
-write_list-returns-in-Not t c =
-    let e = listed_two c.args.level c.args.ty.now c.args.val.now c.args.m c.args.at c.args.v c.requires.fair_bound.0 (sym c.in-Not.is ∙ c.checked_div2.ensures) in
+pub write_list-returns-in-None : goal.write_list-returns-in-None
+write_list-returns-in-None t c =
+    let e = listed_two c.args.level c.args.table.now.ty.now c.args.val.now c.args.m c.args.at c.args.v c.requires.fair_bound.0 (sym c.in-None.is ∙ c.checked_div2.ensures) in
     placed_as e c.write_block.ensures
 
-pub write_list-shape_of-out-in-Of : goal.write_list-shape_of-out-in-Of
-write_list-shape_of-out-in-Of t c =
-    let h = listed_more c.args.level c.args.ty.now c.args.val.now c.args.m c.share-n.result c.args.at c.args.v c.requires.fair_bound.0 (sym c.in-Of.is ∙ c.checked_div2.ensures) c.requires.fair_bound.1 (c.share-n.ensures ∙ ap (block_share c.args.m) c.get.ensures) in
+pub write_list-shape_of-out-in-Some : goal.write_list-shape_of-out-in-Some
+write_list-shape_of-out-in-Some t c =
+    let h = listed_more c.args.level c.args.table.now.ty.now c.args.val.now c.args.m c.share-n.result c.args.at c.args.v c.requires.fair_bound.0 (sym c.in-Some.is ∙ c.checked_div2.ensures) c.requires.fair_bound.1 (c.share-n.ensures ∙ ap (block_share c.args.m) c.get.ensures) in
     let pair = list_pair h c.requires.ready in
     placed_length c.requires.ready (pair_done pair c.write_block-left.ensures c.write_list-right.ensures)
 
-pub write_list-returns-in-Of : goal.write_list-returns-in-Of
-write_list-returns-in-Of t c =
-    let h = listed_more c.args.level c.args.ty.now c.args.val.now c.args.m c.share-n.result c.args.at c.args.v c.requires.fair_bound.0 (sym c.in-Of.is ∙ c.checked_div2.ensures) c.requires.fair_bound.1 (c.share-n.ensures ∙ ap (block_share c.args.m) c.get.ensures) in
+pub write_list-returns-in-Some : goal.write_list-returns-in-Some
+write_list-returns-in-Some t c =
+    let h = listed_more c.args.level c.args.table.now.ty.now c.args.val.now c.args.m c.share-n.result c.args.at c.args.v c.requires.fair_bound.0 (sym c.in-Some.is ∙ c.checked_div2.ensures) c.requires.fair_bound.1 (c.share-n.ensures ∙ ap (block_share c.args.m) c.get.ensures) in
     let pair = list_pair h c.requires.ready in
     pair_done pair c.write_block-left.ensures c.write_list-right.ensures
 
-pub write_record-head_at-requires : goal.write_record-head_at-requires
-write_record-head_at-requires t c = search steps
+pub write_record-head-requires : goal.write_record-head-requires
+write_record-head-requires t c = search steps
 
 pub write_record-form_of-requires : goal.write_record-form_of-requires
-write_record-form_of-requires t c = readable _ _ _ _ _ _ _ _ c.requires.stands c.requires.ready.told c.head_at.ensures.0 c.head_at.ensures.1
+write_record-form_of-requires t c = readable _ _ _ _ _ _ _ _ c.requires.stands c.requires.ready.told c.head.ensures.0 c.head.ensures.1
 
 pub write_record-overflow_add-result : goal.write_record-overflow_add-result
 write_record-overflow_add-result t c =
-    let i = as_bits c.requires.stands c.requires.ready.told c.head_at.ensures.0 c.head_at.ensures.1 c.form_of.ensures c.in-Bits.is in
+    let i = as_bits c.requires.stands c.requires.ready.told c.head.ensures.0 c.head.ensures.1 c.form_of.ensures c.in-Bits.is in
     let i = i.there in search steps
 
 pub write_record-write_bits-requires : goal.write_record-write_bits-requires
 write_record-write_bits-requires t c =
-    let i = as_bits c.requires.stands c.requires.ready.told c.head_at.ensures.0 c.head_at.ensures.1 c.form_of.ensures c.in-Bits.is in
-    record { bits_there = record { some_bits = i.some_bits; few = i.few; inside = i.inside; there = i.there }; room = ready_room c.requires.ready i.same; lefts_value = search rules }
+    let i = as_bits c.requires.stands c.requires.ready.told c.head.ensures.0 c.head.ensures.1 c.form_of.ensures c.in-Bits.is in
+    record { bits_there = record { some_bits = i.some_bits; few = i.few; inside = i.inside; there = i.there }; room = ready_room c.requires.ready i.same }
 
 pub write_record-overflow_add-at : goal.write_record-overflow_add-at
 write_record-overflow_add-at t c = search steps
@@ -192,22 +192,22 @@ write_record-overflow_sub-level t c = search steps
 
 pub write_record-overflow_add-v : goal.write_record-overflow_add-v
 write_record-overflow_add-v t c =
-    let i = as_product c.requires.stands c.requires.ready.told c.head_at.ensures.0 c.head_at.ensures.1 c.form_of.ensures c.in-Product.is in
+    let i = as_product c.requires.stands c.requires.ready.told c.head.ensures.0 c.head.ensures.1 c.form_of.ensures c.in-Product.is in
     let i = i.there in search steps
 
 pub write_record-write_tree-row-requires : goal.write_record-write_tree-row-requires
 write_record-write_tree-row-requires t c =
-    let i = as_product c.requires.stands c.requires.ready.told c.head_at.ensures.0 c.head_at.ensures.1 c.form_of.ensures c.in-Product.is in
+    let i = as_product c.requires.stands c.requires.ready.told c.head.ensures.0 c.head.ensures.1 c.form_of.ensures c.in-Product.is in
     let l = level_some c.requires.stands in
     let f = i.few in
-    (omega arith, (f, (i.given, (ready_as i.same c.requires.ready, search rules))))
+    (omega arith, (f, (i.given, ready_as i.same c.requires.ready)))
 
 pub write_record-overflow_add-at-in-Sum : goal.write_record-overflow_add-at-in-Sum
 write_record-overflow_add-at-in-Sum t c = search steps
 
 pub write_record-hop-place-requires : goal.write_record-hop-place-requires
 write_record-hop-place-requires t c =
-    let i = as_sum c.requires.stands c.requires.ready.told c.head_at.ensures.0 c.head_at.ensures.1 c.form_of.ensures c.in-Sum.is in
+    let i = as_sum c.requires.stands c.requires.ready.told c.head.ensures.0 c.head.ensures.1 c.form_of.ensures c.in-Sum.is in
     i.hopped
 
 pub write_record-overflow_sub-level-in-Sum : goal.write_record-overflow_sub-level-in-Sum
@@ -215,16 +215,16 @@ write_record-overflow_sub-level-in-Sum t c = search steps
 
 pub write_record-overflow_add-v-in-Sum : goal.write_record-overflow_add-v-in-Sum
 write_record-overflow_add-v-in-Sum t c =
-    let i = as_sum c.requires.stands c.requires.ready.told c.head_at.ensures.0 c.head_at.ensures.1 c.form_of.ensures c.in-Sum.is in
+    let i = as_sum c.requires.stands c.requires.ready.told c.head.ensures.0 c.head.ensures.1 c.form_of.ensures c.in-Sum.is in
     let i = i.there in search steps
 
 pub write_record-write_sum-requires : goal.write_record-write_sum-requires
 write_record-write_sum-requires t c =
-    let i = as_sum c.requires.stands c.requires.ready.told c.head_at.ensures.0 c.head_at.ensures.1 c.form_of.ensures c.in-Sum.is in
+    let i = as_sum c.requires.stands c.requires.ready.told c.head.ensures.0 c.head.ensures.1 c.form_of.ensures c.in-Sum.is in
     let l = level_some c.requires.stands in
     let f = i.few in
     let h = c.hop-place.ensures in
-    (omega arith, ((i.less, f), (rw h i.given, (rw h (ready_as i.same c.requires.ready), search rules))))
+    (omega arith, ((i.less, f), (rw h i.given, rw h (ready_as i.same c.requires.ready))))
 
 pub write_record-overflow_add-at-in-List : goal.write_record-overflow_add-at-in-List
 write_record-overflow_add-at-in-List t c = search steps
@@ -234,15 +234,15 @@ write_record-overflow_sub-level-in-List t c = search steps
 
 pub write_record-overflow_add-v-in-List : goal.write_record-overflow_add-v-in-List
 write_record-overflow_add-v-in-List t c =
-    let i = as_list c.requires.stands c.requires.ready.told c.head_at.ensures.0 c.head_at.ensures.1 c.form_of.ensures c.in-List.is in
+    let i = as_list c.requires.stands c.requires.ready.told c.head.ensures.0 c.head.ensures.1 c.form_of.ensures c.in-List.is in
     let i = i.there in search steps
 
 pub write_record-write_list-requires : goal.write_record-write_list-requires
 write_record-write_list-requires t c =
-    let i = as_list c.requires.stands c.requires.ready.told c.head_at.ensures.0 c.head_at.ensures.1 c.form_of.ensures c.in-List.is in
+    let i = as_list c.requires.stands c.requires.ready.told c.head.ensures.0 c.head.ensures.1 c.form_of.ensures c.in-List.is in
     let l = level_some c.requires.stands in
     let m = bound_small i.fair in
-    (omega arith, ((i.fair, i.less), (i.given, (ready_as i.same c.requires.ready, search rules))))
+    (omega arith, ((i.fair, i.less), (i.given, ready_as i.same c.requires.ready)))
 
 pub write_record-overflow_add-at-in-Payload : goal.write_record-overflow_add-at-in-Payload
 write_record-overflow_add-at-in-Payload t c = search steps
@@ -252,64 +252,64 @@ write_record-overflow_sub-level-in-Payload t c = search steps
 
 pub write_record-write_tree-row-requires-in-Payload : goal.write_record-write_tree-row-requires-in-Payload
 write_record-write_tree-row-requires-in-Payload t c =
-    let i = as_payload c.requires.stands c.requires.ready.told c.head_at.ensures.0 c.head_at.ensures.1 c.form_of.ensures c.in-Payload.is in
+    let i = as_payload c.requires.stands c.requires.ready.told c.head.ensures.0 c.head.ensures.1 c.form_of.ensures c.in-Payload.is in
     let l = level_some c.requires.stands in
     let f = i.few in
-    (omega arith, (f, (i.given, (ready_as i.same c.requires.ready, search rules))))
+    (omega arith, (f, (i.given, ready_as i.same c.requires.ready)))
 
 pub write_record-shape_of-out-in-Bits : goal.write_record-shape_of-out-in-Bits
 write_record-shape_of-out-in-Bits t c =
-    let i = as_bits c.requires.stands c.requires.ready.told c.head_at.ensures.0 c.head_at.ensures.1 c.form_of.ensures c.in-Bits.is in
+    let i = as_bits c.requires.stands c.requires.ready.told c.head.ensures.0 c.head.ensures.1 c.form_of.ensures c.in-Bits.is in
     placed_length c.requires.ready (record { shape = _; told = i.same; wrote = c.write_bits.ensures })
 
 pub write_record-returns-in-Bits : goal.write_record-returns-in-Bits
 write_record-returns-in-Bits t c =
-    let i = as_bits c.requires.stands c.requires.ready.told c.head_at.ensures.0 c.head_at.ensures.1 c.form_of.ensures c.in-Bits.is in
+    let i = as_bits c.requires.stands c.requires.ready.told c.head.ensures.0 c.head.ensures.1 c.form_of.ensures c.in-Bits.is in
     record { shape = _; told = i.same; wrote = c.write_bits.ensures }
 
 pub write_record-shape_of-out-in-Product : goal.write_record-shape_of-out-in-Product
 write_record-shape_of-out-in-Product t c =
-    let i = as_product c.requires.stands c.requires.ready.told c.head_at.ensures.0 c.head_at.ensures.1 c.form_of.ensures c.in-Product.is in
+    let i = as_product c.requires.stands c.requires.ready.told c.head.ensures.0 c.head.ensures.1 c.form_of.ensures c.in-Product.is in
     placed_length c.requires.ready (placed_as i.same c.write_tree-row.ensures.0)
 
 pub write_record-returns-in-Product : goal.write_record-returns-in-Product
 write_record-returns-in-Product t c =
-    let i = as_product c.requires.stands c.requires.ready.told c.head_at.ensures.0 c.head_at.ensures.1 c.form_of.ensures c.in-Product.is in
+    let i = as_product c.requires.stands c.requires.ready.told c.head.ensures.0 c.head.ensures.1 c.form_of.ensures c.in-Product.is in
     placed_as i.same c.write_tree-row.ensures.0
 
 pub write_record-shape_of-out-in-Sum : goal.write_record-shape_of-out-in-Sum
 write_record-shape_of-out-in-Sum t c =
-    let i = as_sum c.requires.stands c.requires.ready.told c.head_at.ensures.0 c.head_at.ensures.1 c.form_of.ensures c.in-Sum.is in
+    let i = as_sum c.requires.stands c.requires.ready.told c.head.ensures.0 c.head.ensures.1 c.form_of.ensures c.in-Sum.is in
     let e = c.hop-place.ensures in
     placed_length c.requires.ready (placed_as i.same (rw e at c.write_sum.ensures))
 
 pub write_record-returns-in-Sum : goal.write_record-returns-in-Sum
 write_record-returns-in-Sum t c =
-    let i = as_sum c.requires.stands c.requires.ready.told c.head_at.ensures.0 c.head_at.ensures.1 c.form_of.ensures c.in-Sum.is in
+    let i = as_sum c.requires.stands c.requires.ready.told c.head.ensures.0 c.head.ensures.1 c.form_of.ensures c.in-Sum.is in
     placed_as i.same (rw (← c.hop-place.ensures) c.write_sum.ensures)
 
 pub write_record-shape_of-out-in-List : goal.write_record-shape_of-out-in-List
 write_record-shape_of-out-in-List t c =
-    let i = as_list c.requires.stands c.requires.ready.told c.head_at.ensures.0 c.head_at.ensures.1 c.form_of.ensures c.in-List.is in
+    let i = as_list c.requires.stands c.requires.ready.told c.head.ensures.0 c.head.ensures.1 c.form_of.ensures c.in-List.is in
     placed_length c.requires.ready (placed_as i.same c.write_list.ensures)
 
 pub write_record-returns-in-List : goal.write_record-returns-in-List
 write_record-returns-in-List t c =
-    let i = as_list c.requires.stands c.requires.ready.told c.head_at.ensures.0 c.head_at.ensures.1 c.form_of.ensures c.in-List.is in
+    let i = as_list c.requires.stands c.requires.ready.told c.head.ensures.0 c.head.ensures.1 c.form_of.ensures c.in-List.is in
     placed_as i.same c.write_list.ensures
 
 pub write_record-shape_of-out-in-Payload : goal.write_record-shape_of-out-in-Payload
 write_record-shape_of-out-in-Payload t c =
-    let i = as_payload c.requires.stands c.requires.ready.told c.head_at.ensures.0 c.head_at.ensures.1 c.form_of.ensures c.in-Payload.is in
+    let i = as_payload c.requires.stands c.requires.ready.told c.head.ensures.0 c.head.ensures.1 c.form_of.ensures c.in-Payload.is in
     placed_length c.requires.ready (placed_as i.same c.write_tree-row-in-Payload.ensures.0)
 
 pub write_record-returns-in-Payload : goal.write_record-returns-in-Payload
 write_record-returns-in-Payload t c =
-    let i = as_payload c.requires.stands c.requires.ready.told c.head_at.ensures.0 c.head_at.ensures.1 c.form_of.ensures c.in-Payload.is in
+    let i = as_payload c.requires.stands c.requires.ready.told c.head.ensures.0 c.head.ensures.1 c.form_of.ensures c.in-Payload.is in
     placed_as i.same c.write_tree-row-in-Payload.ensures.0
 
 pub write_sum-write_record-requires : goal.write_sum-write_record-requires
-write_sum-write_record-requires t c = (omega arith, (c.requires.stands, (ready_as (only_is _ _ _ _ _ _ _ c.if-n-eq1.true) c.requires.ready, search rules)))
+write_sum-write_record-requires t c = (omega arith, (c.requires.stands, ready_as (only_is _ _ _ _ _ _ _ c.if-n-eq1.true) c.requires.ready))
 
 pub write_sum-shape_of-out-then-n-eq1 : goal.write_sum-shape_of-out-then-n-eq1
 write_sum-shape_of-out-then-n-eq1 t c = placed_length c.requires.ready (placed_as (only_is _ _ _ _ _ _ _ c.if-n-eq1.true) c.write_record.ensures)
@@ -320,7 +320,7 @@ write_sum-returns-then-n-eq1 t c = placed_as (only_is _ _ _ _ _ _ _ c.if-n-eq1.t
 pub write_sum-btree_split_index-few-requires : goal.write_sum-btree_split_index-few-requires
 write_sum-btree_split_index-few-requires t c =
     let e : 2 ≤ c.args.n = omega arith in
-    record { le_n = (e, c.requires.i_lt_n.1); lefts_value = search rules }
+    (e, c.requires.i_lt_n.1)
 
 pub write_sum-bounds-out-0 : goal.write_sum-bounds-out-0
 write_sum-bounds-out-0 t c = search steps
@@ -328,13 +328,13 @@ write_sum-bounds-out-0 t c = search steps
 pub write_sum-slice_bounds-write_sum-count : goal.write_sum-slice_bounds-write_sum-count
 write_sum-slice_bounds-write_sum-count t c =
     let e : 2 ≤ c.args.n = omega arith in
-    let stem = sum_left c.args.level c.args.ty.now c.args.val.now c.args.n c.args.i c.args.at c.args.v c.btree_split_index-few.result c.args.out.now c.btree_split_index-few.ensures e c.requires.ready c.if-i-few.true in
+    let stem = sum_left c.args.level c.args.table.now.ty.now c.args.val.now c.args.n c.args.i c.args.at c.args.v c.btree_split_index-few.result c.args.out.now c.btree_split_index-few.ensures e c.requires.ready c.if-i-few.true in
     stem_start stem
 
 pub write_sum-slice_bounds-write_sum-start : goal.write_sum-slice_bounds-write_sum-start
 write_sum-slice_bounds-write_sum-start t c =
     let e : 2 ≤ c.args.n = omega arith in
-    let stem = sum_left c.args.level c.args.ty.now c.args.val.now c.args.n c.args.i c.args.at c.args.v c.btree_split_index-few.result c.args.out.now c.btree_split_index-few.ensures e c.requires.ready c.if-i-few.true in
+    let stem = sum_left c.args.level c.args.table.now.ty.now c.args.val.now c.args.n c.args.i c.args.at c.args.v c.btree_split_index-few.result c.args.out.now c.btree_split_index-few.ensures e c.requires.ready c.if-i-few.true in
     stem_start stem
 
 pub write_sum-slice_bounds-write_sum-end : goal.write_sum-slice_bounds-write_sum-end
@@ -343,26 +343,26 @@ write_sum-slice_bounds-write_sum-end t c = search steps
 pub write_sum-write_sum-left-requires : goal.write_sum-write_sum-left-requires
 write_sum-write_sum-left-requires t c =
     let e : 2 ≤ c.args.n = omega arith in
-    let stem = sum_left c.args.level c.args.ty.now c.args.val.now c.args.n c.args.i c.args.at c.args.v c.btree_split_index-few.result c.args.out.now c.btree_split_index-few.ensures e c.requires.ready c.if-i-few.true in
+    let stem = sum_left c.args.level c.args.table.now.ty.now c.args.val.now c.args.n c.args.i c.args.at c.args.v c.btree_split_index-few.result c.args.out.now c.btree_split_index-few.ensures e c.requires.ready c.if-i-few.true in
     let h = shares c.btree_split_index-few.ensures e in
-    (omega arith, ((c.if-i-few.true, omega arith), (c.requires.stands, (stem_ready stem, search rules))))
+    (omega arith, ((c.if-i-few.true, omega arith), (c.requires.stands, stem_ready stem)))
 
 pub write_sum-overflow_add-result : goal.write_sum-overflow_add-result
 write_sum-overflow_add-result t c =
     let e : 2 ≤ c.args.n = omega arith in
-    let stem = sum_left c.args.level c.args.ty.now c.args.val.now c.args.n c.args.i c.args.at c.args.v c.btree_split_index-few.result c.args.out.now c.btree_split_index-few.ensures e c.requires.ready c.if-i-few.true in
+    let stem = sum_left c.args.level c.args.table.now.ty.now c.args.val.now c.args.n c.args.i c.args.at c.args.v c.btree_split_index-few.result c.args.out.now c.btree_split_index-few.ensures e c.requires.ready c.if-i-few.true in
     omega (arith, stem_small stem c.write_sum-left.ensures)
 
 pub write_sum-shape_of-out-then-i-few : goal.write_sum-shape_of-out-then-i-few
 write_sum-shape_of-out-then-i-few t c =
     let e : 2 ≤ c.args.n = omega arith in
-    let stem = sum_left c.args.level c.args.ty.now c.args.val.now c.args.n c.args.i c.args.at c.args.v c.btree_split_index-few.result c.args.out.now c.btree_split_index-few.ensures e c.requires.ready c.if-i-few.true in
+    let stem = sum_left c.args.level c.args.table.now.ty.now c.args.val.now c.args.n c.args.i c.args.at c.args.v c.btree_split_index-few.result c.args.out.now c.btree_split_index-few.ensures e c.requires.ready c.if-i-few.true in
     placed_length c.requires.ready (stem_done stem c.write_sum-left.ensures)
 
 pub write_sum-returns-then-i-few : goal.write_sum-returns-then-i-few
 write_sum-returns-then-i-few t c =
     let e : 2 ≤ c.args.n = omega arith in
-    let stem = sum_left c.args.level c.args.ty.now c.args.val.now c.args.n c.args.i c.args.at c.args.v c.btree_split_index-few.result c.args.out.now c.btree_split_index-few.ensures e c.requires.ready c.if-i-few.true in
+    let stem = sum_left c.args.level c.args.table.now.ty.now c.args.val.now c.args.n c.args.i c.args.at c.args.v c.btree_split_index-few.result c.args.out.now c.btree_split_index-few.ensures e c.requires.ready c.if-i-few.true in
     stem_done stem c.write_sum-left.ensures
 
 pub write_sum-bounds-out-0-2 : goal.write_sum-bounds-out-0-2
@@ -377,13 +377,13 @@ write_sum-overflow_sub-others t c =
 pub write_sum-slice_bounds-write_sum-count-2 : goal.write_sum-slice_bounds-write_sum-count-2
 write_sum-slice_bounds-write_sum-count-2 t c =
     let e : 2 ≤ c.args.n = omega arith in
-    let stem = sum_right c.args.level c.args.ty.now c.args.val.now c.args.n c.args.i c.args.at c.args.v c.btree_split_index-few.result c.args.out.now c.btree_split_index-few.ensures e c.requires.ready c.if-i-few.false in
+    let stem = sum_right c.args.level c.args.table.now.ty.now c.args.val.now c.args.n c.args.i c.args.at c.args.v c.btree_split_index-few.result c.args.out.now c.btree_split_index-few.ensures e c.requires.ready c.if-i-few.false in
     stem_start stem
 
 pub write_sum-slice_bounds-write_sum-start-2 : goal.write_sum-slice_bounds-write_sum-start-2
 write_sum-slice_bounds-write_sum-start-2 t c =
     let e : 2 ≤ c.args.n = omega arith in
-    let stem = sum_right c.args.level c.args.ty.now c.args.val.now c.args.n c.args.i c.args.at c.args.v c.btree_split_index-few.result c.args.out.now c.btree_split_index-few.ensures e c.requires.ready c.if-i-few.false in
+    let stem = sum_right c.args.level c.args.table.now.ty.now c.args.val.now c.args.n c.args.i c.args.at c.args.v c.btree_split_index-few.result c.args.out.now c.btree_split_index-few.ensures e c.requires.ready c.if-i-few.false in
     stem_start stem
 
 pub write_sum-slice_bounds-write_sum-end-2 : goal.write_sum-slice_bounds-write_sum-end-2
@@ -392,26 +392,26 @@ write_sum-slice_bounds-write_sum-end-2 t c = search steps
 pub write_sum-write_sum-right-requires : goal.write_sum-write_sum-right-requires
 write_sum-write_sum-right-requires t c =
     let e : 2 ≤ c.args.n = omega arith in
-    let stem = sum_right c.args.level c.args.ty.now c.args.val.now c.args.n c.args.i c.args.at c.args.v c.btree_split_index-few.result c.args.out.now c.btree_split_index-few.ensures e c.requires.ready c.if-i-few.false in
+    let stem = sum_right c.args.level c.args.table.now.ty.now c.args.val.now c.args.n c.args.i c.args.at c.args.v c.btree_split_index-few.result c.args.out.now c.btree_split_index-few.ensures e c.requires.ready c.if-i-few.false in
     let h = shares c.btree_split_index-few.ensures e in
-    (omega arith, ((omega arith, omega arith), (c.requires.stands, (stem_ready stem, search rules))))
+    (omega arith, ((omega arith, omega arith), (c.requires.stands, stem_ready stem)))
 
 pub write_sum-overflow_add-result-2 : goal.write_sum-overflow_add-result-2
 write_sum-overflow_add-result-2 t c =
     let e : 2 ≤ c.args.n = omega arith in
-    let stem = sum_right c.args.level c.args.ty.now c.args.val.now c.args.n c.args.i c.args.at c.args.v c.btree_split_index-few.result c.args.out.now c.btree_split_index-few.ensures e c.requires.ready c.if-i-few.false in
+    let stem = sum_right c.args.level c.args.table.now.ty.now c.args.val.now c.args.n c.args.i c.args.at c.args.v c.btree_split_index-few.result c.args.out.now c.btree_split_index-few.ensures e c.requires.ready c.if-i-few.false in
     omega (arith, stem_small stem c.write_sum-right.ensures)
 
 pub write_sum-shape_of-out : goal.write_sum-shape_of-out
 write_sum-shape_of-out t c =
     let e : 2 ≤ c.args.n = omega arith in
-    let stem = sum_right c.args.level c.args.ty.now c.args.val.now c.args.n c.args.i c.args.at c.args.v c.btree_split_index-few.result c.args.out.now c.btree_split_index-few.ensures e c.requires.ready c.if-i-few.false in
+    let stem = sum_right c.args.level c.args.table.now.ty.now c.args.val.now c.args.n c.args.i c.args.at c.args.v c.btree_split_index-few.result c.args.out.now c.btree_split_index-few.ensures e c.requires.ready c.if-i-few.false in
     placed_length c.requires.ready (stem_done stem c.write_sum-right.ensures)
 
 pub write_sum-returns : goal.write_sum-returns
 write_sum-returns t c =
     let e : 2 ≤ c.args.n = omega arith in
-    let stem = sum_right c.args.level c.args.ty.now c.args.val.now c.args.n c.args.i c.args.at c.args.v c.btree_split_index-few.result c.args.out.now c.btree_split_index-few.ensures e c.requires.ready c.if-i-few.false in
+    let stem = sum_right c.args.level c.args.table.now.ty.now c.args.val.now c.args.n c.args.i c.args.at c.args.v c.btree_split_index-few.result c.args.out.now c.btree_split_index-few.ensures e c.requires.ready c.if-i-few.false in
     stem_done stem c.write_sum-right.ensures
 
 pub write_tree-write_unit-requires : goal.write_tree-write_unit-requires
@@ -426,7 +426,7 @@ write_tree-returns-then-n-eq0 t c = (record { shape = unit; told = none_is _ _ _
 pub write_tree-write_record-one-requires : goal.write_tree-write_record-one-requires
 write_tree-write_record-one-requires t c =
     let z = c.if-n-eq1.true in
-    (omega arith, (one_given c.requires.given_parts z, (ready_as (one_is _ _ _ _ _ _ _ z) c.requires.ready, search rules)))
+    (omega arith, (one_given c.requires.given_parts z, ready_as (one_is _ _ _ _ _ _ _ z) c.requires.ready))
 
 pub write_tree-after_part-requires : goal.write_tree-after_part-requires
 write_tree-after_part-requires t c = stands_inside (one_given c.requires.given_parts c.if-n-eq1.true)
@@ -445,7 +445,7 @@ pub write_tree-bounds-out-0 : goal.write_tree-bounds-out-0
 write_tree-bounds-out-0 t c = search steps
 
 pub write_tree-btree_split_index-few-requires : goal.write_tree-btree_split_index-few-requires
-write_tree-btree_split_index-few-requires t c = let z = c.if-n-eq0.false in let o = c.if-n-eq1.false in record { le_n = (omega arith, c.requires.n_le_most_parts); lefts_value = search rules }
+write_tree-btree_split_index-few-requires t c = let z = c.if-n-eq0.false in let o = c.if-n-eq1.false in (omega arith, c.requires.n_le_most_parts)
 
 pub write_tree-overflow_sub-others : goal.write_tree-overflow_sub-others
 write_tree-overflow_sub-others t c =
@@ -454,12 +454,12 @@ write_tree-overflow_sub-others t c =
 
 pub write_tree-slice_bounds-write_tree-count : goal.write_tree-slice_bounds-write_tree-count
 write_tree-slice_bounds-write_tree-count t c =
-    let pair = tree_pair _ _ _ _ _ _ _ _ (skip c.args.parts c.args.level c.args.ty.now c.btree_split_index-few.result c.args.at) _ c.btree_split_index-few.ensures c.if-n-eq0.false c.if-n-eq1.false refl c.requires.ready in
+    let pair = tree_pair _ _ _ _ _ _ _ _ (skip c.args.parts c.args.level c.args.table.now.ty.now c.btree_split_index-few.result c.args.at) _ c.btree_split_index-few.ensures c.if-n-eq0.false c.if-n-eq1.false refl c.requires.ready in
     pair_start pair
 
 pub write_tree-slice_bounds-write_tree-start : goal.write_tree-slice_bounds-write_tree-start
 write_tree-slice_bounds-write_tree-start t c =
-    let pair = tree_pair _ _ _ _ _ _ _ _ (skip c.args.parts c.args.level c.args.ty.now c.btree_split_index-few.result c.args.at) _ c.btree_split_index-few.ensures c.if-n-eq0.false c.if-n-eq1.false refl c.requires.ready in
+    let pair = tree_pair _ _ _ _ _ _ _ _ (skip c.args.parts c.args.level c.args.table.now.ty.now c.btree_split_index-few.result c.args.at) _ c.btree_split_index-few.ensures c.if-n-eq0.false c.if-n-eq1.false refl c.requires.ready in
     pair_start pair
 
 pub write_tree-slice_bounds-write_tree-end : goal.write_tree-slice_bounds-write_tree-end
@@ -468,22 +468,22 @@ write_tree-slice_bounds-write_tree-end t c = search steps
 pub write_tree-write_tree-left-requires : goal.write_tree-write_tree-left-requires
 write_tree-write_tree-left-requires t c =
     let h = shares c.btree_split_index-few.ensures (omega arith) in
-    let pair = tree_pair _ _ _ _ _ _ _ _ (skip c.args.parts c.args.level c.args.ty.now c.btree_split_index-few.result c.args.at) _ c.btree_split_index-few.ensures c.if-n-eq0.false c.if-n-eq1.false refl c.requires.ready in
-    (omega arith, (omega arith, (left_given h c.requires.given_parts, (left_ready pair, search rules))))
+    let pair = tree_pair _ _ _ _ _ _ _ _ (skip c.args.parts c.args.level c.args.table.now.ty.now c.btree_split_index-few.result c.args.at) _ c.btree_split_index-few.ensures c.if-n-eq0.false c.if-n-eq1.false refl c.requires.ready in
+    (omega arith, (omega arith, (left_given h c.requires.given_parts, left_ready pair)))
 
 pub write_tree-overflow_add-k : goal.write_tree-overflow_add-k
 write_tree-overflow_add-k t c =
-    let pair = tree_pair _ _ _ _ _ _ _ _ (skip c.args.parts c.args.level c.args.ty.now c.btree_split_index-few.result c.args.at) _ c.btree_split_index-few.ensures c.if-n-eq0.false c.if-n-eq1.false refl c.requires.ready in
+    let pair = tree_pair _ _ _ _ _ _ _ _ (skip c.args.parts c.args.level c.args.table.now.ty.now c.btree_split_index-few.result c.args.at) _ c.btree_split_index-few.ensures c.if-n-eq0.false c.if-n-eq1.false refl c.requires.ready in
     omega (arith, pair_small pair c.write_tree-left.ensures.0)
 
 pub write_tree-slice_bounds-write_tree-count-2 : goal.write_tree-slice_bounds-write_tree-count-2
 write_tree-slice_bounds-write_tree-count-2 t c =
-    let pair = tree_pair _ _ _ _ _ _ _ _ (skip c.args.parts c.args.level c.args.ty.now c.btree_split_index-few.result c.args.at) _ c.btree_split_index-few.ensures c.if-n-eq0.false c.if-n-eq1.false refl c.requires.ready in
+    let pair = tree_pair _ _ _ _ _ _ _ _ (skip c.args.parts c.args.level c.args.table.now.ty.now c.btree_split_index-few.result c.args.at) _ c.btree_split_index-few.ensures c.if-n-eq0.false c.if-n-eq1.false refl c.requires.ready in
     pair_fits pair c.write_tree-left.ensures.0
 
 pub write_tree-slice_bounds-write_tree-start-2 : goal.write_tree-slice_bounds-write_tree-start-2
 write_tree-slice_bounds-write_tree-start-2 t c =
-    let pair = tree_pair _ _ _ _ _ _ _ _ (skip c.args.parts c.args.level c.args.ty.now c.btree_split_index-few.result c.args.at) _ c.btree_split_index-few.ensures c.if-n-eq0.false c.if-n-eq1.false refl c.requires.ready in
+    let pair = tree_pair _ _ _ _ _ _ _ _ (skip c.args.parts c.args.level c.args.table.now.ty.now c.btree_split_index-few.result c.args.at) _ c.btree_split_index-few.ensures c.if-n-eq0.false c.if-n-eq1.false refl c.requires.ready in
     pair_fits pair c.write_tree-left.ensures.0
 
 pub write_tree-slice_bounds-write_tree-end-2 : goal.write_tree-slice_bounds-write_tree-end-2
@@ -494,7 +494,7 @@ write_tree-write_tree-right-requires t c =
     let h = shares c.btree_split_index-few.ensures (omega arith) in
     let w = c.write_tree-left.ensures in
     let pair = tree_pair _ _ _ _ _ _ _ _ _ _ c.btree_split_index-few.ensures c.if-n-eq0.false c.if-n-eq1.false w.1 c.requires.ready in
-    (omega arith, (omega arith, (right_given h c.requires.given_parts w.1, (right_ready pair w.0, search rules))))
+    (omega arith, (omega arith, (right_given h c.requires.given_parts w.1, right_ready pair w.0)))
 
 pub write_tree-overflow_add-result : goal.write_tree-overflow_add-result
 write_tree-overflow_add-result t c =

@@ -6,9 +6,6 @@ use Rattle.shape_clean.proofs.copy_bit.Goals as goal
 
 ruleset steps = (ready_some, bit_second, bit_fits, bit_placed, rules)
 
-pub record_at-requires : goal.record_at-requires
-record_at-requires c = search steps
-
 pub bounds-out-0 : goal.bounds-out-0
 bounds-out-0 c = search steps
 
@@ -17,9 +14,6 @@ bounds-out-1 c = search steps
 
 pub overflow_add-result : goal.overflow_add-result
 overflow_add-result c = search steps
-
-pub shape_of-out : goal.shape_of-out
-shape_of-out c = search steps
 
 pub returns : goal.returns
 returns c = search steps

@@ -17,7 +17,7 @@ unfolding copies type_in reading
 whole sh g = sym (ap (λ (r : Copier). r 0) (standing_is g (copier sh)))
 
 pub copy_record-requires : goal.copy_record-requires
-copy_record-requires c = record { stands = stands c.requires.given; ready = ready_as (whole _ c.requires.given) c.requires.ready; lefts_value = c.requires.lefts_value }
+copy_record-requires c = record { stands = stands c.requires.given; ready = ready_as (whole _ c.requires.given) c.requires.ready }
 
 pub returns : goal.returns
 returns c = record { next = _; placed = placed_as (whole _ c.requires.given) c.copy_record.ensures }

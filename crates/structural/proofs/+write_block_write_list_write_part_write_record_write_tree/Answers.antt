@@ -31,7 +31,7 @@ pub write_block-slice_bounds-write_tree-end : goal.write_block-slice_bounds-writ
 write_block-slice_bounds-write_tree-end t c = search steps
 
 pub write_block-write_tree-requires : goal.write_block-write_tree-requires
-write_block-write_tree-requires t c = (omega arith, (omega arith, (given_copies _ c.requires.stands, (search steps, search rules))))
+write_block-write_tree-requires t c = (omega arith, (omega arith, (given_copies _ c.requires.stands, search steps)))
 
 pub write_block-overflow_add-result : goal.write_block-overflow_add-result
 write_block-overflow_add-result t c = search steps
@@ -46,7 +46,7 @@ pub write_list-checked_div2-requires : goal.write_list-checked_div2-requires
 write_list-checked_div2-requires t c = search steps
 
 pub write_list-write_block-requires : goal.write_list-write_block-requires
-write_list-write_block-requires t c = (omega arith, (omega arith, (c.requires.stands, (rw (← list_two _ _ _ c.requires.fair_bound (sym c.in-Not.is ∙ c.checked_div2.ensures)) c.requires.room, search rules))))
+write_list-write_block-requires t c = (omega arith, (omega arith, (c.requires.stands, rw (← list_two _ _ _ c.requires.fair_bound (sym c.in-None.is ∙ c.checked_div2.ensures)) c.requires.room)))
 
 pub write_list-bounds-out-0 : goal.write_list-bounds-out-0
 write_list-bounds-out-0 t c = search steps
@@ -56,13 +56,13 @@ write_list-get-requires t c = search steps
 
 pub write_list-slice_bounds-write_block-count : goal.write_list-slice_bounds-write_block-count
 write_list-slice_bounds-write_block-count t c =
-    let h = list_more c.args.level c.args.ty.now c.args.at c.requires.fair_bound (sym c.in-Of.is ∙ c.checked_div2.ensures) in
+    let h = list_more c.args.level c.args.table.now.ty.now c.args.at c.requires.fair_bound (sym c.in-Some.is ∙ c.checked_div2.ensures) in
     let f = list_fork c.args.out.now c.get.ensures h c.requires.room in
     fork_start f
 
 pub write_list-slice_bounds-write_block-start : goal.write_list-slice_bounds-write_block-start
 write_list-slice_bounds-write_block-start t c =
-    let h = list_more c.args.level c.args.ty.now c.args.at c.requires.fair_bound (sym c.in-Of.is ∙ c.checked_div2.ensures) in
+    let h = list_more c.args.level c.args.table.now.ty.now c.args.at c.requires.fair_bound (sym c.in-Some.is ∙ c.checked_div2.ensures) in
     let f = list_fork c.args.out.now c.get.ensures h c.requires.room in
     fork_start f
 
@@ -71,26 +71,26 @@ write_list-slice_bounds-write_block-end t c = search steps
 
 pub write_list-write_block-k-requires : goal.write_list-write_block-k-requires
 write_list-write_block-k-requires t c =
-    let h = list_more c.args.level c.args.ty.now c.args.at c.requires.fair_bound (sym c.in-Of.is ∙ c.checked_div2.ensures) in
+    let h = list_more c.args.level c.args.table.now.ty.now c.args.at c.requires.fair_bound (sym c.in-Some.is ∙ c.checked_div2.ensures) in
     let f = list_fork c.args.out.now c.get.ensures h c.requires.room in
     let m = bound_small h.fair in
-    (omega arith, (omega arith, (c.requires.stands, (left_room f, search rules))))
+    (omega arith, (omega arith, (c.requires.stands, left_room f)))
 
 pub write_list-overflow_add-k : goal.write_list-overflow_add-k
 write_list-overflow_add-k t c =
-    let h = list_more c.args.level c.args.ty.now c.args.at c.requires.fair_bound (sym c.in-Of.is ∙ c.checked_div2.ensures) in
+    let h = list_more c.args.level c.args.table.now.ty.now c.args.at c.requires.fair_bound (sym c.in-Some.is ∙ c.checked_div2.ensures) in
     let f = list_fork c.args.out.now c.get.ensures h c.requires.room in
     omega (arith, left_small f c.write_block-k.ensures)
 
 pub write_list-slice_bounds-write_list-count : goal.write_list-slice_bounds-write_list-count
 write_list-slice_bounds-write_list-count t c =
-    let h = list_more c.args.level c.args.ty.now c.args.at c.requires.fair_bound (sym c.in-Of.is ∙ c.checked_div2.ensures) in
+    let h = list_more c.args.level c.args.table.now.ty.now c.args.at c.requires.fair_bound (sym c.in-Some.is ∙ c.checked_div2.ensures) in
     let f = list_fork c.args.out.now c.get.ensures h c.requires.room in
     left_fits f c.write_block-k.ensures
 
 pub write_list-slice_bounds-write_list-start : goal.write_list-slice_bounds-write_list-start
 write_list-slice_bounds-write_list-start t c =
-    let h = list_more c.args.level c.args.ty.now c.args.at c.requires.fair_bound (sym c.in-Of.is ∙ c.checked_div2.ensures) in
+    let h = list_more c.args.level c.args.table.now.ty.now c.args.at c.requires.fair_bound (sym c.in-Some.is ∙ c.checked_div2.ensures) in
     let f = list_fork c.args.out.now c.get.ensures h c.requires.room in
     left_fits f c.write_block-k.ensures
 
@@ -99,31 +99,31 @@ write_list-slice_bounds-write_list-end t c = search steps
 
 pub write_list-write_list-requires : goal.write_list-write_list-requires
 write_list-write_list-requires t c =
-    let h = list_more c.args.level c.args.ty.now c.args.at c.requires.fair_bound (sym c.in-Of.is ∙ c.checked_div2.ensures) in
+    let h = list_more c.args.level c.args.table.now.ty.now c.args.at c.requires.fair_bound (sym c.in-Some.is ∙ c.checked_div2.ensures) in
     let f = list_fork c.args.out.now c.get.ensures h c.requires.room in
-    (omega arith, (h.fair, (c.requires.stands, (right_room f c.write_block-k.ensures, search rules))))
+    (omega arith, (h.fair, (c.requires.stands, right_room f c.write_block-k.ensures)))
 
 pub write_list-overflow_add-result : goal.write_list-overflow_add-result
 write_list-overflow_add-result t c =
-    let h = list_more c.args.level c.args.ty.now c.args.at c.requires.fair_bound (sym c.in-Of.is ∙ c.checked_div2.ensures) in
+    let h = list_more c.args.level c.args.table.now.ty.now c.args.at c.requires.fair_bound (sym c.in-Some.is ∙ c.checked_div2.ensures) in
     let f = list_fork c.args.out.now c.get.ensures h c.requires.room in
     omega (arith, fork_small f c.write_block-k.ensures c.write_list.ensures)
 
-pub write_list-shape_of-out-in-Not : goal.write_list-shape_of-out-in-Not
-write_list-shape_of-out-in-Not t c = search steps
+pub write_list-shape_of-out-in-None : goal.write_list-shape_of-out-in-None
+write_list-shape_of-out-in-None t c = search steps
 
-pub write_list-returns-in-Not : goal.write_list-returns-in-Not
-write_list-returns-in-Not t c = wrote_as (ap type_records (list_two _ _ _ c.requires.fair_bound (sym c.in-Not.is ∙ c.checked_div2.ensures))) c.write_block.ensures
+pub write_list-returns-in-None : goal.write_list-returns-in-None
+write_list-returns-in-None t c = wrote_as (ap type_records (list_two _ _ _ c.requires.fair_bound (sym c.in-None.is ∙ c.checked_div2.ensures))) c.write_block.ensures
 
-pub write_list-shape_of-out-in-Of : goal.write_list-shape_of-out-in-Of
-write_list-shape_of-out-in-Of t c =
-    let h = list_more c.args.level c.args.ty.now c.args.at c.requires.fair_bound (sym c.in-Of.is ∙ c.checked_div2.ensures) in
+pub write_list-shape_of-out-in-Some : goal.write_list-shape_of-out-in-Some
+write_list-shape_of-out-in-Some t c =
+    let h = list_more c.args.level c.args.table.now.ty.now c.args.at c.requires.fair_bound (sym c.in-Some.is ∙ c.checked_div2.ensures) in
     let f = list_fork c.args.out.now c.get.ensures h c.requires.room in
     wrote_length (fork_done f c.write_block-k.ensures c.write_list.ensures) c.requires.room
 
-pub write_list-returns-in-Of : goal.write_list-returns-in-Of
-write_list-returns-in-Of t c =
-    let h = list_more c.args.level c.args.ty.now c.args.at c.requires.fair_bound (sym c.in-Of.is ∙ c.checked_div2.ensures) in
+pub write_list-returns-in-Some : goal.write_list-returns-in-Some
+write_list-returns-in-Some t c =
+    let h = list_more c.args.level c.args.table.now.ty.now c.args.at c.requires.fair_bound (sym c.in-Some.is ∙ c.checked_div2.ensures) in
     let f = list_fork c.args.out.now c.get.ensures h c.requires.room in
     fork_done f c.write_block-k.ensures c.write_list.ensures
 
@@ -133,20 +133,14 @@ write_part-write_bit-requires t c = search steps
 pub write_part-write_record-requires : goal.write_part-write_record-requires
 write_part-write_record-requires t c = search steps
 
-pub write_part-offset_bounds-ends-at : goal.write_part-offset_bounds-ends-at
-write_part-offset_bounds-ends-at t c = search steps
-
-pub write_part-bounds-ends-at : goal.write_part-bounds-ends-at
-write_part-bounds-ends-at t c = search steps
+pub write_part-end-requires : goal.write_part-end-requires
+write_part-end-requires t c = search steps
 
 pub write_part-write_record-requires-in-Types : goal.write_part-write_record-requires-in-Types
 write_part-write_record-requires-in-Types t c = search steps
 
-pub write_part-offset_bounds-ends-at-in-Choices : goal.write_part-offset_bounds-ends-at-in-Choices
-write_part-offset_bounds-ends-at-in-Choices t c = search steps
-
-pub write_part-bounds-ends-at-in-Choices : goal.write_part-bounds-ends-at-in-Choices
-write_part-bounds-ends-at-in-Choices t c = search steps
+pub write_part-end-requires-in-Choices : goal.write_part-end-requires-in-Choices
+write_part-end-requires-in-Choices t c = search steps
 
 pub write_part-write_record-requires-in-Choices : goal.write_part-write_record-requires-in-Choices
 write_part-write_record-requires-in-Choices t c = search steps
@@ -167,16 +161,16 @@ pub write_part-shape_of-out-in-Types : goal.write_part-shape_of-out-in-Types
 write_part-shape_of-out-in-Types t c = search steps
 
 pub write_part-returns-in-Types : goal.write_part-returns-in-Types
-write_part-returns-in-Types t c = search steps
+write_part-returns-in-Types t c = rw c.end.ensures (search steps)
 
 pub write_part-shape_of-out-in-Choices : goal.write_part-shape_of-out-in-Choices
 write_part-shape_of-out-in-Choices t c = search steps
 
 pub write_part-returns-in-Choices : goal.write_part-returns-in-Choices
-write_part-returns-in-Choices t c = search steps
+write_part-returns-in-Choices t c = rw c.end-in-Choices.ensures (search steps)
 
-pub write_record-head_at-requires : goal.write_record-head_at-requires
-write_record-head_at-requires t c = search steps
+pub write_record-head-requires : goal.write_record-head-requires
+write_record-head-requires t c = search steps
 
 pub write_record-form_of-requires : goal.write_record-form_of-requires
 write_record-form_of-requires t c = search steps
@@ -189,9 +183,9 @@ write_record-overflow_sub-level t c = search steps
 
 pub write_record-write_tree-requires : goal.write_record-write_tree-requires
 write_record-write_tree-requires t c =
-    let i = as_tree c.requires.stands _ _ c.in-Tree.parts c.in-Tree.n c.head_at.ensures.0 c.head_at.ensures.1 c.form_of.ensures c.in-Tree.is in
+    let i = as_tree c.requires.stands _ _ c.in-Tree.parts c.in-Tree.n c.head.ensures.0 c.head.ensures.1 c.form_of.ensures c.in-Tree.is in
     let l = level_some c.requires.stands in
-    (omega arith, (i.few, (i.given, (rw (← i.same) c.requires.room, search rules))))
+    (omega arith, (i.few, (i.given, rw (← i.same) c.requires.room)))
 
 pub write_record-overflow_add-at-in-List : goal.write_record-overflow_add-at-in-List
 write_record-overflow_add-at-in-List t c = search steps
@@ -201,17 +195,17 @@ write_record-overflow_sub-level-in-List t c = search steps
 
 pub write_record-write_list-requires : goal.write_record-write_list-requires
 write_record-write_list-requires t c =
-    let i = as_list c.requires.stands _ _ c.in-List.bound c.head_at.ensures.0 c.head_at.ensures.1 c.form_of.ensures c.in-List.is in
+    let i = as_list c.requires.stands _ _ c.in-List.bound c.head.ensures.0 c.head.ensures.1 c.form_of.ensures c.in-List.is in
     let l = level_some c.requires.stands in
     let m = bound_small i.fair in
-    (omega arith, (i.fair, (i.given, (rw (← i.same) c.requires.room, search rules))))
+    (omega arith, (i.fair, (i.given, rw (← i.same) c.requires.room)))
 
 pub write_record-shape_of-out-in-Tree : goal.write_record-shape_of-out-in-Tree
 write_record-shape_of-out-in-Tree t c = search steps
 
 pub write_record-returns-in-Tree : goal.write_record-returns-in-Tree
 write_record-returns-in-Tree t c =
-    let i = as_tree c.requires.stands _ _ c.in-Tree.parts c.in-Tree.n c.head_at.ensures.0 c.head_at.ensures.1 c.form_of.ensures c.in-Tree.is in
+    let i = as_tree c.requires.stands _ _ c.in-Tree.parts c.in-Tree.n c.head.ensures.0 c.head.ensures.1 c.form_of.ensures c.in-Tree.is in
     wrote_as (ap type_records i.same) c.write_tree.ensures.wrote
 
 pub write_record-shape_of-out-in-List : goal.write_record-shape_of-out-in-List
@@ -219,7 +213,7 @@ write_record-shape_of-out-in-List t c = search steps
 
 pub write_record-returns-in-List : goal.write_record-returns-in-List
 write_record-returns-in-List t c =
-    let i = as_list c.requires.stands _ _ c.in-List.bound c.head_at.ensures.0 c.head_at.ensures.1 c.form_of.ensures c.in-List.is in
+    let i = as_list c.requires.stands _ _ c.in-List.bound c.head.ensures.0 c.head.ensures.1 c.form_of.ensures c.in-List.is in
     wrote_as (ap type_records i.same) c.write_list.ensures
 
 pub write_tree-write_unit-requires : goal.write_tree-write_unit-requires
@@ -255,12 +249,12 @@ write_tree-overflow_sub-others t c =
 
 pub write_tree-slice_bounds-write_tree-count : goal.write_tree-slice_bounds-write_tree-count
 write_tree-slice_bounds-write_tree-count t c =
-    let f = tree_fork _ _ _ _ c.btree_split_index-few.result c.args.at (skip c.args.parts c.args.level c.args.ty.now c.btree_split_index-few.result c.args.at) _ c.args.out.now c.btree_split_index-few.ensures c.if-n-eq0.false c.if-n-eq1.false c.joint.ensures refl c.requires.room in
+    let f = tree_fork _ _ _ _ c.btree_split_index-few.result c.args.at (skip c.args.parts c.args.level c.args.table.now.ty.now c.btree_split_index-few.result c.args.at) _ c.args.out.now c.btree_split_index-few.ensures c.if-n-eq0.false c.if-n-eq1.false c.joint.ensures refl c.requires.room in
     fork_start f
 
 pub write_tree-slice_bounds-write_tree-start : goal.write_tree-slice_bounds-write_tree-start
 write_tree-slice_bounds-write_tree-start t c =
-    let f = tree_fork _ _ _ _ c.btree_split_index-few.result c.args.at (skip c.args.parts c.args.level c.args.ty.now c.btree_split_index-few.result c.args.at) _ c.args.out.now c.btree_split_index-few.ensures c.if-n-eq0.false c.if-n-eq1.false c.joint.ensures refl c.requires.room in
+    let f = tree_fork _ _ _ _ c.btree_split_index-few.result c.args.at (skip c.args.parts c.args.level c.args.table.now.ty.now c.btree_split_index-few.result c.args.at) _ c.args.out.now c.btree_split_index-few.ensures c.if-n-eq0.false c.if-n-eq1.false c.joint.ensures refl c.requires.room in
     fork_start f
 
 pub write_tree-slice_bounds-write_tree-end : goal.write_tree-slice_bounds-write_tree-end
@@ -269,8 +263,8 @@ write_tree-slice_bounds-write_tree-end t c = search steps
 pub write_tree-write_tree-left-requires : goal.write_tree-write_tree-left-requires
 write_tree-write_tree-left-requires t c =
     let l = shares_else c.btree_split_index-few.ensures c.if-n-eq0.false c.if-n-eq1.false in
-    let f = tree_fork _ _ _ _ c.btree_split_index-few.result c.args.at (skip c.args.parts c.args.level c.args.ty.now c.btree_split_index-few.result c.args.at) _ c.args.out.now c.btree_split_index-few.ensures c.if-n-eq0.false c.if-n-eq1.false c.joint.ensures refl c.requires.room in
-    (omega arith, (omega arith, (left_given l c.requires.given_parts, (left_room f, search rules))))
+    let f = tree_fork _ _ _ _ c.btree_split_index-few.result c.args.at (skip c.args.parts c.args.level c.args.table.now.ty.now c.btree_split_index-few.result c.args.at) _ c.args.out.now c.btree_split_index-few.ensures c.if-n-eq0.false c.if-n-eq1.false c.joint.ensures refl c.requires.room in
+    (omega arith, (omega arith, (left_given l c.requires.given_parts, left_room f)))
 
 pub write_tree-are_same-requires : goal.write_tree-are_same-requires
 write_tree-are_same-requires t c = search steps
@@ -316,17 +310,17 @@ write_tree-returns-then-are_same t c =
 
 pub write_tree-overflow_add-k : goal.write_tree-overflow_add-k
 write_tree-overflow_add-k t c =
-    let f = tree_fork _ _ _ _ c.btree_split_index-few.result c.args.at (skip c.args.parts c.args.level c.args.ty.now c.btree_split_index-few.result c.args.at) _ c.args.out.now c.btree_split_index-few.ensures c.if-n-eq0.false c.if-n-eq1.false c.joint.ensures refl c.requires.room in
+    let f = tree_fork _ _ _ _ c.btree_split_index-few.result c.args.at (skip c.args.parts c.args.level c.args.table.now.ty.now c.btree_split_index-few.result c.args.at) _ c.args.out.now c.btree_split_index-few.ensures c.if-n-eq0.false c.if-n-eq1.false c.joint.ensures refl c.requires.room in
     omega (arith, left_small f c.write_tree-left.ensures.wrote)
 
 pub write_tree-slice_bounds-write_tree-count-2 : goal.write_tree-slice_bounds-write_tree-count-2
 write_tree-slice_bounds-write_tree-count-2 t c =
-    let f = tree_fork _ _ _ _ c.btree_split_index-few.result c.args.at (skip c.args.parts c.args.level c.args.ty.now c.btree_split_index-few.result c.args.at) _ c.args.out.now c.btree_split_index-few.ensures c.if-n-eq0.false c.if-n-eq1.false c.joint.ensures refl c.requires.room in
+    let f = tree_fork _ _ _ _ c.btree_split_index-few.result c.args.at (skip c.args.parts c.args.level c.args.table.now.ty.now c.btree_split_index-few.result c.args.at) _ c.args.out.now c.btree_split_index-few.ensures c.if-n-eq0.false c.if-n-eq1.false c.joint.ensures refl c.requires.room in
     left_fits f c.write_tree-left.ensures.wrote
 
 pub write_tree-slice_bounds-write_tree-start-2 : goal.write_tree-slice_bounds-write_tree-start-2
 write_tree-slice_bounds-write_tree-start-2 t c =
-    let f = tree_fork _ _ _ _ c.btree_split_index-few.result c.args.at (skip c.args.parts c.args.level c.args.ty.now c.btree_split_index-few.result c.args.at) _ c.args.out.now c.btree_split_index-few.ensures c.if-n-eq0.false c.if-n-eq1.false c.joint.ensures refl c.requires.room in
+    let f = tree_fork _ _ _ _ c.btree_split_index-few.result c.args.at (skip c.args.parts c.args.level c.args.table.now.ty.now c.btree_split_index-few.result c.args.at) _ c.args.out.now c.btree_split_index-few.ensures c.if-n-eq0.false c.if-n-eq1.false c.joint.ensures refl c.requires.room in
     left_fits f c.write_tree-left.ensures.wrote
 
 pub write_tree-slice_bounds-write_tree-end-2 : goal.write_tree-slice_bounds-write_tree-end-2
@@ -336,7 +330,7 @@ pub write_tree-write_tree-right-requires : goal.write_tree-write_tree-right-requ
 write_tree-write_tree-right-requires t c =
     let l = shares_else c.btree_split_index-few.ensures c.if-n-eq0.false c.if-n-eq1.false in
     let f = tree_fork _ _ _ _ _ _ _ _ c.args.out.now c.btree_split_index-few.ensures c.if-n-eq0.false c.if-n-eq1.false c.joint.ensures c.write_tree-left.ensures.next c.requires.room in
-    (omega arith, (omega arith, (right_given l c.requires.given_parts c.write_tree-left.ensures.next, (right_room f c.write_tree-left.ensures.wrote, search rules))))
+    (omega arith, (omega arith, (right_given l c.requires.given_parts c.write_tree-left.ensures.next, right_room f c.write_tree-left.ensures.wrote)))
 
 pub write_tree-overflow_add-result-2 : goal.write_tree-overflow_add-result-2
 write_tree-overflow_add-result-2 t c =

@@ -1,5 +1,5 @@
 -- Laws of what stands at a record: it is the tree or the list that the record's form says of what stands below it (`formed`).
-use Rattle.std.specs.Prelude.{◌≡◌, Bool, length, get_or, replicate}
+use Rattle.std.specs.Prelude.{◌≡◌, Bool, length, get_or, replicate, Result, Ok}
 use Rattle.std.proofs.Math.Path.{refl, sym, ap, ap₂}
 use Rattle.std.proofs.Common.{◌∙◌, sub-one, Fits}
 use Rattle.std.proofs.Math.Bool.{true, false}
@@ -21,8 +21,6 @@ use Rattle.types.specs.declared.Head.TheVariants.{Missing, Faulty, Never, Boolea
 use Rattle.types.specs.declared.Rec.{Rec}
 use Rattle.types.specs.declared.Rec.TheVariants.{Gone, Wrong, Enum, Variant}
 use Rattle.types.specs.declared.Rec.TheVariants as rec
-use Rattle.types.specs.declared.Walk.{Walk}
-use Rattle.types.specs.declared.Walk.TheVariants.{End}
 use Rattle.types.specs.Record.{head_at, calls_for, rec_at}
 use Rattle.types.specs.Heads.{Fair, FairBound}
 use Rattle.types.specs.Walks.{opens, walk}
@@ -37,10 +35,11 @@ use Rattle.structural.specs.declared.Parts.TheVariants.{Bits, Copies, Types, Cho
 use Rattle.structural.specs.Forms.{most_parts, form_of, is_variant, standing, ending, Stands, join, part, after, skip, row, balanced, GivenPart, GivenParts, listed}
 use Rattle.structural.proofs.Laws.Bounds.{width_small}
 use Rattle.structural.proofs.Laws.Trees.{row_stays, balanced_none, copies, given_copies}
+use Rattle.reply.specs.declared.Refusal.{Refusal}
 
 -- WHAT STANDS AT A RECORD
 
-opened_variant : (v : Bool) (r : Rec) (k : Bool → ℕ → Walk) (e : ℕ) → opens v r k ≡ End e → is_variant r ≡ v
+opened_variant : (v : Bool) (r : Rec) (k : Bool → ℕ → Result ℕ Refusal) (e : ℕ) → opens v r k ≡ Ok e → is_variant r ≡ v
 unfolding opens
 opened_variant v Gone k e h = bad_end h
 opened_variant v Wrong k e h = bad_end h
@@ -52,7 +51,7 @@ opened_variant true (Enum n) k e h = bad_end h
 opened_variant true (Variant n) k e h = refl
 
 -- where a Variant is expected one stands, and nowhere else
-pub walked_variant : (d : ℕ) (v : Bool) (s : List ℕ) (p e : ℕ) → walk d v s p ≡ End e → is_variant (rec_at s p) ≡ v
+pub walked_variant : (d : ℕ) (v : Bool) (s : List ℕ) (p e : ℕ) → walk d v s p ≡ Ok e → is_variant (rec_at s p) ≡ v
 unfolding walk
 walked_variant zero v s p e h = opened_variant v (rec_at s p) _ e h
 walked_variant (suc d) v s p e h = opened_variant v (rec_at s p) _ e h

@@ -1,9 +1,8 @@
 -- Laws of lists, as code writes them: a block of 1, or a block of half the bound and the list with that bound.
-use Rattle.std.specs.Prelude.{◌≡◌, List, ℕ, zero, suc, ◌-◌, ◌^◌, ◌<◌}
+use Rattle.std.specs.Prelude.{◌≡◌, List, ℕ, zero, suc, ◌-◌, ◌^◌, ◌<◌, Some, None}
 use Rattle.std.proofs.Common.{sym, ap, sub-one, arith}
 use Rattle.std.proofs.Math.Nat.{two-pow-succ, one-le-pow}
 use Rattle.num.specs.declared.NonZeroPow2Usize.{NonZeroPow2Usize}
-use Rattle.num.specs.declared.Bound.TheVariants as bounds
 use Rattle.num.specs.Powers.{bound, bound_log2, half_bound}
 use Rattle.num.specs.Laws.{bounded, bound_power, half_bound_two, half_bound_more}
 use Rattle.model.specs.Structural.{𝟙, ◌⊕◌, ◌⊗◌, partition_type, type_records}
@@ -15,7 +14,7 @@ use Rattle.structural.proofs.Laws.Bounds.{Power, power_of}
 use Rattle.structural.proofs.Laws.Trees.{copies}
 
 -- with the bound 2 a list is a block of 1
-pub list_two : {b : NonZeroPow2Usize} (d : ℕ) (s : List ℕ) (p : ℕ) → FairBound b → bounds.Not ≡ half_bound b.0 → listed d s b p ≡ block_of d s 1 p
+pub list_two : {b : NonZeroPow2Usize} (d : ℕ) (s : List ℕ) (p : ℕ) → FairBound b → None ≡ half_bound b.0 → listed d s b p ≡ block_of d s 1 p
 unfolding listed block_of partition_type
 list_two {b} d s p f h = go f.exponent (power_of f)
   where
@@ -32,7 +31,7 @@ pub record Halved (b h : NonZeroPow2Usize) (d : ℕ) (s : List ℕ) (p : ℕ) : 
   pub less : h.0 < b.0
   pub same : listed d s b p ≡ block_of d s h.0 p ⊗ listed d s h p
 
-pub list_more : {b h : NonZeroPow2Usize} (d : ℕ) (s : List ℕ) (p : ℕ) → FairBound b → bounds.Of h ≡ half_bound b.0 → Halved b h d s p
+pub list_more : {b h : NonZeroPow2Usize} (d : ℕ) (s : List ℕ) (p : ℕ) → FairBound b → Some h ≡ half_bound b.0 → Halved b h d s p
 unfolding listed block_of partition_type
 list_more {b} {h} d s p f q = go f.exponent (power_of f)
   where

@@ -15,12 +15,6 @@ overflow_add-out c = omega arith
 pub bounds-out-len : goal.bounds-out-len
 bounds-out-len c = let t = c.loop-i.invariant in omega (arith, repeated_length c.requires t.1 t.0)
 
-pub overflow_add-i : goal.overflow_add-i
-overflow_add-i c = omega arith
-
-pub loop-i-smaller : goal.loop-i-smaller
-loop-i-smaller c = omega arith
-
 pub loop-i-preserved : goal.loop-i-preserved
 loop-i-preserved c = (omega arith, repeated_next c.requires c.loop-i.invariant.1 c.loop-i-test.true)
 

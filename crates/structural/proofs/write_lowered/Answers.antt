@@ -7,7 +7,7 @@ use Rattle.structural.proofs.Laws.Forms.{stands, standing_is}
 use Rattle.structural.proofs.write_lowered.Goals as goal
 
 pub write_record-requires : goal.write_record-requires
-write_record-requires c = record { stands = stands c.requires.given; room = rw (standing_is c.requires.given) c.requires.room; lefts_value = search rules }
+write_record-requires c = record { stands = stands c.requires.given; room = rw (standing_is c.requires.given) c.requires.room }
 
 pub returns : goal.returns
 returns c = wrote_as (ap type_records (sym (standing_is c.requires.given))) c.write_record.ensures

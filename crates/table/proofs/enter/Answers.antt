@@ -1,13 +1,22 @@
--- `table::enter` meets its contract: what stands behind record i is read from both halves of the facts, and its own are put down at i and at 1024 + i, which both lie within them.
--- The second half, as it is cut out, is all that stands from 1024 on; a number put down in one half leaves the other as it was. Assumes nothing.
-use mathlib.Core.Path.{refl}
-use Rattle.table.specs.Halves.{first_count}
-use Rattle.table.specs.Measuring.{entered_halves}
-use native.Mathlib.Omega.{arith}
+-- `table::enter` meets its contract: the facts of record i are computed from what stands behind it, and put down there; its end stays. Assumes nothing.
+use Rattle.std.proofs.Common.{◌≡◌, refl, sym, ap, ◌∙◌}
+use Rattle.types.proofs.Entries.{ends_same, sizes_set, widths_set}
+use Rattle.table.specs.Lowering.{is_never, not_never}
+use Rattle.table.specs.Measuring.{entered}
+use Rattle.table.proofs.enter.Goals.{Joined-matches, in-Never, in_default}
 use Rattle.table.proofs.enter.Goals as goal
 
-pub slice_bounds-facts_of-end : goal.slice_bounds-facts_of-end
-slice_bounds-facts_of-end c = first_count c.args.facts.now (omega arith)
+told : (c : Joined-matches) → c.match-matches.matches ≡ is_never c.head_at-h.result
+told c = elim c.match-matches.branch [
+  | in-Never w ↦ w.matches-is ∙ ap is_never (sym w.in-Never.is)
+  | in_default w ↦ w.matches-is ∙ not_never _ w.in_default.not-Never
+]
 
-pub returns : goal.returns
-returns c = let h = c.head_at-h.ensures in entered_halves _ _ c.args.facts.now _ _ _ _ _ c.requires.i_bound h.0 h.1 c.facts_of-f.ensures c.is_never.ensures refl
+pub returns-clause-kept : goal.returns-clause-kept
+returns-clause-kept c = ends_same _ _ _ refl
+
+pub returns-clause-entered : goal.returns-clause-entered
+returns-clause-entered c =
+    let h = c.head_at-h.ensures in
+    rw (sizes_set c.args.entries.now c.args.i _, widths_set c.args.entries.now c.args.i _)
+    (entered _ _ _ _ _ _ _ _ _ h.0 h.1 c.facts_of-f.ensures (told c) refl)

@@ -1,8 +1,7 @@
+use Prim.Native.Nat.{◌-◌}
+use Rattle.types.specs.Entries.{ends, sizes, widths}
 use Rattle.table.specs.Steps.{Summing}
 use Rattle.table.proofs.sum_entries.Given as goal
 
-abbrev pub invariant-loop-left : goal.invariant-loop-left
-invariant-loop-left l = Summing l.ends l.sizes l.widths l.n l.p l.left l.q l.size l.width
-
-abbrev pub decreases-loop-left : goal.decreases-loop-left
-decreases-loop-left l = l.left
+abbrev pub invariant-loop : goal.invariant-loop
+invariant-loop l = Summing (ends l.entries) (sizes l.entries) (widths l.entries) l.n l.p (l.n - l.counter) l.q l.size l.width

@@ -1,15 +1,12 @@
 -- Contents written byte by byte: each byte of s gives some bytes of text, one after the other.
-use Rattle.std.specs.Prelude.{◌≡◌, refl, List, [], ◌∷◌, ◌++◌, map, ℕ, ◌+◌, ◌/◌, ◌%◌, ◌≤◌, ◌<◌, length, get_or, take, drop, set}
+use Rattle.std.specs.Prelude.{◌≡◌, refl, List, [], ◌∷◌, ◌++◌, map, ℕ, ◌+◌, ◌*◌, ◌/◌, ◌%◌, ◌≤◌, ◌<◌, length, get_or, take, drop, set}
 use Rattle.std.proofs.Common.{sym, ap, ◌∙◌, append_assoc, append-nil, add-one, arith, lt-ltb, le-ltb, length-append, take-append-drop, take-suc, take_all}
 use Rattle.model.specs.Options.{flat_map}
 use Rattle.structural.specs.Writing.{Wrote}
 use Rattle.structural.proofs.Laws.Writing.{wrote_none, wrote_set, wrote_length, wrote_as}
 use Rattle.text.specs.Lines.{digit, hex_digit, hex, in_digits, in_hex}
 
--- what stands for a byte: in a name itself, among records a digit, in a frame two digits
-abbrev pub as_is : ℕ → List ℕ
-as_is b = b ∷ []
-
+-- what stands for a byte: among records a digit, in a frame two digits
 abbrev pub as_digit : ℕ → List ℕ
 as_digit b = digit b ∷ []
 
@@ -62,14 +59,14 @@ one_passed {f} {s} {i = i} p h =
     record { inside = omega arith; room = p.room; wrote = wrote_as (front_next (λ b. f b ∷ []) s i h) (wrote_set p.wrote (f (get_or s i 0)) (let r = next_room p h in omega arith)) }
 
 -- two bytes for a byte
-pub hex_passed : {s out o : List ℕ} {i k a b : ℕ} → Passed hex s out o i k → i < length s → a ≡ hex_digit (get_or s i 0 / 16) → b ≡ hex_digit (get_or s i 0 % 16)
-    → Passed hex s out (set (set o k a) (k + 1) b) (i + 1) (k + 2)
+pub hex_passed : {s out o : List ℕ} {i a b : ℕ} → Passed hex s out o i (2 * i) → i < length s → a ≡ hex_digit (get_or s i 0 / 16) → b ≡ hex_digit (get_or s i 0 % 16)
+    → Passed hex s out (set (set o (2 * i) a) (2 * i + 1) b) (i + 1) (2 * (i + 1))
 unfolding hex
-hex_passed {s} {out} {o} {i} {k} {a} {b} p h e f =
+hex_passed {s} {out} {o} {i} {a} {b} p h e f =
     let r = next_room p h in
     let x = flat_map hex (take i s) in
-    let w : Wrote ((x ++ (a ∷ [])) ++ (b ∷ [])) out (set (set o k a) (k + 1) b) (k + 1 + 1) = wrote_set (wrote_set p.wrote a (omega arith)) b (omega arith) in
-    let n : k + 1 + 1 ≡ k + 2 = omega arith in
+    let w : Wrote ((x ++ (a ∷ [])) ++ (b ∷ [])) out (set (set o (2 * i) a) (2 * i + 1) b) (2 * i + 1 + 1) = wrote_set (wrote_set p.wrote a (omega arith)) b (omega arith) in
+    let n : 2 * i + 1 + 1 ≡ 2 * (i + 1) = omega arith in
     let d : x ++ hex (get_or s i 0) ≡ (x ++ (a ∷ [])) ++ (b ∷ []) = rw (append_assoc, e, f) in
     record { inside = omega arith; room = p.room; wrote = wrote_as (front_next hex s i h ∙ d) (rw n at w) }
 
@@ -78,29 +75,25 @@ unfolding hex
 hex_fits p h = next_fits p h
 
 -- what is written when all are passed
-flat_is : (l : List ℕ) → l ≡ flat_map as_is l
-flat_is [] = refl
-flat_is (b ∷ l) = ap (λ t. b ∷ t) (flat_is l)
-
 flat_digits : (l : List ℕ) → map digit l ≡ flat_map as_digit l
 flat_digits [] = refl
 flat_digits (b ∷ l) = ap (λ t. digit b ∷ t) (flat_digits l)
 
-pub name_passed : {s out o : List ℕ} {i k : ℕ} → Passed as_is s out o i k → length s ≤ i → Wrote s out o k
-name_passed {s} p h = wrote_as (flat_is s) (all_passed p h)
-
-pub digits_passed : {s out o : List ℕ} {i k : ℕ} → Passed as_digit s out o i k → length s ≤ i → Wrote (in_digits s) out o k
+pub digits_passed : {s out o : List ℕ} {i : ℕ} → Passed as_digit s out o i i → length s ≤ i → Wrote (in_digits s) out o (length s)
 unfolding in_digits
-digits_passed {s} p h = wrote_as (flat_digits s) (all_passed p h)
+digits_passed {s} {i = i} p h =
+    let n : i ≡ length s = omega (arith, p.inside) in
+    let w = all_passed p h in
+    wrote_as (flat_digits s) (rw n at w)
 
-pub hexes_passed : {s out o : List ℕ} {i k : ℕ} → Passed hex s out o i k → length s ≤ i → Wrote (in_hex s) out o k
+pub hexes_passed : {s out o : List ℕ} {i : ℕ} → Passed hex s out o i (2 * i) → length s ≤ i → Wrote (in_hex s) out o (2 * length s)
 unfolding in_hex
-hexes_passed p h = all_passed p h
+hexes_passed {s} {i = i} p h =
+    let n : i ≡ length s = omega (arith, p.inside) in
+    let w = all_passed p h in
+    rw n at w
 
 -- there is room from the start
-pub name_start : (s out : List ℕ) → length s ≤ length out → Passed as_is s out out 0 0
-name_start s out h = none_passed as_is s out (omega (arith, ap length (flat_is s)))
-
 pub digits_start : (s out : List ℕ) → length (in_digits s) ≤ length out → Passed as_digit s out out 0 0
 unfolding in_digits
 digits_start s out h = none_passed as_digit s out (omega (arith, ap length (flat_digits s)))

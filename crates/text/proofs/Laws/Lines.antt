@@ -1,13 +1,14 @@
 -- The pieces of a heading, of contents, of a line and of what `job` prints, in the order in which they are written.
-use Rattle.std.specs.Prelude.{◌≡◌, refl, List, [], ◌∷◌, ◌++◌, ℕ, ◌≤◌, ◌<◌, length, set}
-use Rattle.std.proofs.Common.{sym, ap, ◌∙◌, append_assoc, arith, length-append}
+use Rattle.std.specs.Prelude.{◌≡◌, refl, Bool, true, false, ◌==◌, List, [], ◌∷◌, ◌++◌, ℕ, ◌≤◌, ◌<◌, length, set}
+use Rattle.std.proofs.Common.{sym, append_assoc, arith, length-append}
+use Rattle.std.proofs.lemmas.Bool.Decides.{nat_tests}
 use Rattle.structural.specs.Writing.{Wrote}
 use Rattle.structural.proofs.Laws.Writing.{wrote_none, wrote_set}
 use Rattle.text.specs.Lines.{space, newline, decimal, heading, spaced, line, in_digits, in_hex, hex, type_name, shape_name, frame_name, refused_name, job_lines, short_line, refusal_line}
 use Rattle.text.specs.Pieces.{shown}
 use Rattle.text.specs.declared.Contents.{Contents}
 use Rattle.text.specs.declared.Contents.TheVariants.{Records, Bytes}
-use Rattle.text.proofs.Laws.Pieces.{Joined}
+use Rattle.text.proofs.Laws.Pieces.{Joined, first_room}
 
 module _ (a b c out : List ℕ) (h : length (a ++ (b ++ c)) ≤ length out) where
   -- the first two of three pieces
@@ -64,12 +65,15 @@ refusal_end n out h = record { same = refl; room = h }
 
 -- CONTENTS
 
-pub no_contents : (k : Contents) (s : List ℕ) → length s ≡ 0 → spaced (shown k s) ≡ []
+empty_length : (s : List ℕ) {b : Bool} → b ≡ (length s == 0) → b ≡ true → length s ≡ 0
+empty_length s e t = grind (arith, nat_tests)
+
+pub no_contents : (k : Contents) (s : List ℕ) {b : Bool} → b ≡ (length s == 0) → b ≡ true → spaced (shown k s) ≡ []
 unfolding spaced in_digits in_hex
-no_contents Records [] e = refl
-no_contents Bytes [] e = refl
-no_contents Records (b ∷ s) e = absurd (omega arith)
-no_contents Bytes (b ∷ s) e = absurd (omega arith)
+no_contents Records [] e t = refl
+no_contents Bytes [] e t = refl
+no_contents Records (x ∷ s) e t = absurd (omega (arith, empty_length (x ∷ s) e t))
+no_contents Bytes (x ∷ s) e t = absurd (omega (arith, empty_length (x ∷ s) e t))
 
 some_contents : (k : Contents) (s : List ℕ) → (length s ≡ 0 → ⊥) → spaced (shown k s) ≡ space ∷ shown k s
 unfolding spaced in_digits in_hex hex
@@ -77,18 +81,10 @@ some_contents k [] e = absurd (e refl)
 some_contents Records (b ∷ s) e = refl
 some_contents Bytes (b ∷ s) e = refl
 
--- there are contents, and there is room for them
-pub record Shows (k : Contents) (s out : List ℕ) : Type 0 where
-  pub some : length s ≡ 0 → ⊥
-  pub room : length (spaced (shown k s)) ≤ length out
+-- the contents behind their space
+pub contents_behind : (k : Contents) (s out : List ℕ) {b : Bool} → b ≡ (length s == 0) → b ≡ false → length (spaced (shown k s)) ≤ length out
+    → Joined (space ∷ []) (shown k s) (spaced (shown k s)) out
+contents_behind k s out e f h = record { same = some_contents k s (λ z. grind (arith, nat_tests)); room = h }
 
-module _ {k : Contents} {s out : List ℕ} (c : Shows k s out) where
-  pub contents_start : 0 < length out
-  contents_start = let h = c.room in let l = ap length (some_contents k s c.some) in omega arith
-
-  pub space_written : Wrote (space ∷ []) out (set out 0 space) 1
-  space_written = wrote_set (wrote_none out) space contents_start
-
-  -- the contents behind the space, in the arm of what they are
-  pub contents_behind : {v : Contents} → k ≡ v → Joined (space ∷ []) (shown v s) (spaced (shown k s)) out
-  contents_behind r = record { same = some_contents k s c.some ∙ ap (λ k. space ∷ shown k s) r; room = c.room }
+pub space_written : {ys xs out : List ℕ} → Joined (space ∷ []) ys xs out → Wrote (space ∷ []) out (set out 0 space) 1
+space_written {out = out} j = wrote_set (wrote_none out) space (let f = first_room j in omega arith)

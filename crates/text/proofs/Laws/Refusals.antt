@@ -4,9 +4,9 @@ use Rattle.std.proofs.Common.{arith}
 use Rattle.reply.specs.declared.Refusal.{Refusal}
 use Rattle.reply.specs.declared.Refusal.TheVariants as refusal
 use Rattle.reply.specs.Numbers.{refusal_number}
-use Rattle.structural.specs.Writing.{Wrote}
 use Rattle.text.specs.Lines.{refusal_line}
 use Rattle.text.proofs.Laws.Sizes.{refusal_short}
+use Rattle.structural.specs.Writing.{Wrote}
 
 -- 0 is the number of no refusal
 pub number_range : (x : Refusal) → (1 ≤ refusal_number x) × (refusal_number x ≤ 22)

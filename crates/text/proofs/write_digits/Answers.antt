@@ -1,26 +1,13 @@
-use Prim.Native.Nat.{◌-◌}
-use native.Mathlib.Omega.{arith}
+use Rattle.std.proofs.Common.{arith}
 use Rattle.text.specs.Lines.{digit}
-use Rattle.text.proofs.Laws.Contents.{digits_start, next_fits, one_passed, passed_length, digits_passed}
+use Rattle.text.proofs.Laws.Contents.{digits_start, next_fits, one_passed, digits_passed}
 use Rattle.text.proofs.write_digits.Goals as goal
 
 pub loop-i-init : goal.loop-i-init
 loop-i-init c = digits_start _ _ c.requires
 
-pub bounds-s-i : goal.bounds-s-i
-bounds-s-i c = omega arith
-
-pub overflow_add-out : goal.overflow_add-out
-overflow_add-out c = omega arith
-
 pub bounds-out-i : goal.bounds-out-i
 bounds-out-i c = let f = next_fits c.loop-i.invariant c.loop-i-test.true in omega arith
-
-pub overflow_add-i : goal.overflow_add-i
-overflow_add-i c = omega arith
-
-pub loop-i-smaller : goal.loop-i-smaller
-loop-i-smaller c = omega arith
 
 pub loop-i-preserved : goal.loop-i-preserved
 unfolding digit

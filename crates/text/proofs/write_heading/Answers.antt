@@ -1,6 +1,5 @@
 -- The name is written, a space behind it, and the number into the rest. Assumes nothing.
 use native.Mathlib.Omega.{arith}
-use Rattle.structural.proofs.Laws.Writing.{wrote_length}
 use Rattle.text.proofs.Laws.Pieces.{first_room, byte_fits, byte_more, first_fits, rest_room, both, both_small}
 use Rattle.text.proofs.Laws.Lines.{heading_space, heading_number}
 use Rattle.text.proofs.write_heading.Goals as goal

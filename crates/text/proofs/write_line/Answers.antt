@@ -1,6 +1,5 @@
 -- The heading is written, the contents into the rest, and a newline behind them. Assumes nothing.
 use native.Mathlib.Omega.{arith}
-use Rattle.structural.proofs.Laws.Writing.{wrote_length}
 use Rattle.text.proofs.Laws.Pieces.{first_room, byte_fits, byte_more, first_fits, rest_room, both, both_small}
 use Rattle.text.proofs.Laws.Lines.{line_contents, line_end}
 use Rattle.text.proofs.write_line.Goals as goal

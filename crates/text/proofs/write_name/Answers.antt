@@ -1,25 +1,8 @@
-use Prim.Native.Nat.{◌-◌}
-use native.Mathlib.Omega.{arith}
-use Rattle.text.proofs.Laws.Contents.{name_start, next_fits, one_passed, passed_length, name_passed}
+-- The front of the buffer is the name's copy. Assumes nothing.
+use Rattle.std.proofs.Common.{refl, ap, ◌++◌, drop, length}
+use Rattle.structural.specs.Writing.{put}
 use Rattle.text.proofs.write_name.Goals as goal
 
-pub loop-i-init : goal.loop-i-init
-loop-i-init c = name_start _ _ c.requires
-
-pub bounds-name-i : goal.bounds-name-i
-bounds-name-i c = omega arith
-
-pub bounds-out-i : goal.bounds-out-i
-bounds-out-i c = let f = next_fits c.loop-i.invariant c.loop-i-test.true in omega arith
-
-pub overflow_add-i : goal.overflow_add-i
-overflow_add-i c = omega arith
-
-pub loop-i-smaller : goal.loop-i-smaller
-loop-i-smaller c = omega arith
-
-pub loop-i-preserved : goal.loop-i-preserved
-loop-i-preserved c = one_passed {f = λ b. b} c.loop-i.invariant c.loop-i-test.true
-
 pub returns : goal.returns
-returns c = name_passed c.loop-i.invariant c.loop-i-test.false
+unfolding put
+returns c = record { len = refl; out = ap (λ l. l ++ drop (length c.args.name.now) c.args.out.now) c.copy_from_slice.ensures.after }

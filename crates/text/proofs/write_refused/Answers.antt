@@ -1,10 +1,7 @@
 -- The line of a refusal is short. Assumes nothing.
 use Rattle.std.proofs.Common.{arith}
-use Rattle.text.proofs.Laws.Refusals.{refusal_room, refused_as}
+use Rattle.text.proofs.Laws.Refusals.{refusal_room}
 use Rattle.text.proofs.write_refused.Goals as goal
 
 pub write_refusal-requires : goal.write_refusal-requires
-write_refusal-requires c = rw c.refusal_number.ensures (let enough = c.requires in omega (arith, refusal_room c.args.x))
-
-pub returns : goal.returns
-returns c = refused_as c.refusal_number.ensures c.write_refusal.ensures
+write_refusal-requires c = rw c.from.ensures (let enough = c.requires in omega (arith, refusal_room c.args.x))

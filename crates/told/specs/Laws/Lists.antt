@@ -10,11 +10,10 @@ use Rattle.std.proofs.Math.Nat.{two-pow-succ, one-le-pow, sub-zero}
 use native.Mathlib.Omega.{arith}
 use Rattle.std.proofs.Math.Dec.{ltb}
 use Rattle.std.proofs.Math.ListN.{length, take, drop, length-append, length-take, length-drop}
-use Rattle.std.specs.Prelude.{get_or}
+use Rattle.std.specs.Prelude.{get_or, Some, None}
 use Rattle.std.proofs.Math.Seq.{take_at, drop_at}
 use borrow.Author.Tests.{ltb-true, ltb-false, lt-ltb, le-ltb}
 use Rattle.num.specs.declared.NonZeroPow2Usize.{NonZeroPow2Usize}
-use Rattle.num.specs.declared.Bound.TheVariants as bounds
 use Rattle.num.specs.Powers.{bound, bound_log2, half_bound}
 use Rattle.num.specs.Laws.{bounded, bound_power, half_bound_two, half_bound_more}
 use Rattle.model.specs.Options.{pick, map_o}
@@ -163,7 +162,7 @@ module _ (d : ℕ) (s val : List ℕ) where
       full (x ∷ xs) e = ap (λ i. right (fold pair unit (btree i) (x ∷ xs))) e
 
   -- with the bound 2 a list is a block
-  pub listed_two : {b : NonZeroPow2Usize} (m p v : ℕ) → FairBound b → bounds.Not ≡ half_bound b.0 → listed d s val b m p v ≡ block_told d s val m p v
+  pub listed_two : {b : NonZeroPow2Usize} (m p v : ℕ) → FairBound b → None ≡ half_bound b.0 → listed d s val b m p v ≡ block_told d s val m p v
   unfolding listed block_told partition
   listed_two {b} m p v f h = go f.exponent (power_of f)
     where
@@ -210,7 +209,7 @@ module _ (d : ℕ) (s val : List ℕ) where
           ∙ most (row Copies d s val (2 ^ suc e) p v) refl
 
   -- with a larger one it is a block of its share, and the list of the rest with half the bound
-  pub listed_more : {b h : NonZeroPow2Usize} (m n p v : ℕ) → FairBound b → bounds.Of h ≡ half_bound b.0 → m < b.0 → n ≡ block_share m h.0 → Halved b h m n d s val p v
+  pub listed_more : {b h : NonZeroPow2Usize} (m n p v : ℕ) → FairBound b → Some h ≡ half_bound b.0 → m < b.0 → n ≡ block_share m h.0 → Halved b h m n d s val p v
   unfolding listed
   listed_more {b} {h} m n p v f q l r = go f.exponent (power_of f)
     where

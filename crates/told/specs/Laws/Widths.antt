@@ -1,5 +1,5 @@
 -- The table of a type file that lowers has the width of what stands at each record: nothing in it is cut.
-use Rattle.std.specs.Prelude.{◌≡◌, refl, Bool, List, ℕ, zero, suc, ◌+◌, ◌≤◌, ◌<◌, length, get_or}
+use Rattle.std.specs.Prelude.{◌≡◌, refl, Bool, List, ℕ, zero, suc, ◌+◌, ◌≤◌, ◌<◌, length, get_or, Result, Ok}
 use Rattle.std.proofs.Common.{sym, subst, ◌∙◌, ltb-false}
 use Rattle.std.proofs.Math.Path.{ap}
 use Rattle.std.proofs.Math.Bool.{false}
@@ -11,9 +11,6 @@ use Rattle.model.specs.Lowering.{over_large}
 use Rattle.model.proofs.Laws.Lowering.{lowers_not_large}
 use Rattle.model.proofs.Laws.Outcome.{or_false}
 use Rattle.model.proofs.Laws.Sizes.{nodes, width_nodes}
-use Rattle.types.specs.declared.TypeAnswer.{TypeAnswer}
-use Rattle.types.specs.declared.TypeAnswer.TheVariants.{Ok}
-use Rattle.types.specs.declared.Walk.TheVariants.{End}
 use Rattle.types.specs.Walks.{walk}
 use Rattle.types.specs.Trees.{tree}
 use Rattle.types.specs.Lows.{low}
@@ -28,6 +25,7 @@ use Rattle.table.specs.Measuring.{some_variants}
 use Rattle.table.specs.Tabled.{Table, TableIf, Tabled}
 use Rattle.structural.specs.Forms.{Stands, is_variant, standing}
 use Rattle.told.specs.Widths.{Wide}
+use Rattle.reply.specs.declared.Refusal.{Refusal}
 
 -- where none of n records is flagged, each is not
 unflagged : (f : ℕ → Bool) (p n i : ℕ) → flagged f p n ≡ false → i < n → f (p + i) ≡ false
@@ -41,7 +39,7 @@ uncut : (t : SType) (x y : ℕ) → x ≡ cut (nodes t) → x ≤ most_shape_rec
 uncut t x y e l f = let k = width_nodes t in (omega arith, omega arith)
 
 module _ {s E S W : List ℕ} {n : ℕ} (t : Table s E S W n) (h : over_large (tree 32 s 0) ≡ false) where
-  record_width : (d p e : ℕ) (v : Bool) → walk d v s p ≡ End e → (get_or W p 0 ≡ width (low d v s p)) × (get_or W p 0 ≤ 32768)
+  record_width : (d p e : ℕ) (v : Bool) → walk d v s p ≡ Ok e → (get_or W p 0 ≡ width (low d v s p)) × (get_or W p 0 ≤ 32768)
   unfolding large_at
   record_width d p e v q =
       let (w, l) = ends_whole s n t.accepted in
@@ -52,9 +50,9 @@ module _ {s E S W : List ℕ} {n : ℕ} (t : Table s E S W n) (h : over_large (t
       let g : large_at S p ≡ false = ap (large_at S) (sym z) ∙ unflagged (large_at S) 0 n p f i in
       uncut (low d v s p) (get_or S p 0) (get_or W p 0) (m.size p d e v (omega arith) q) (ltb-false _ _ g) (m.width p d e v (omega arith) q)
 
-module _ {s E S W : List ℕ} {r : TypeAnswer} {n : ℕ} (p : Tabled s r E S W) (e : r ≡ Ok n) where
+module _ {s E S W : List ℕ} {r : Result ℕ Refusal} {n : ℕ} (p : Tabled s r E S W) (e : r ≡ Ok n) where
   table : Table s E S W n
-  table = subst (λ (r : TypeAnswer). TableIf r s E S W) e p.table
+  table = subst (λ (r : Result ℕ Refusal). TableIf r s E S W) e p.table
 
   -- row 7 does not hold
   not_large : over_large (tree 32 s 0) ≡ false

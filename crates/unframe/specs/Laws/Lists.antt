@@ -1,5 +1,5 @@
 -- Laws of lists in a frame, as code reads them: a block of 1, or a block of half the bound and the list with that bound.
-use Rattle.std.specs.Prelude.{◌≡◌, refl, Bool, ℕ, zero, suc, ◌+◌, ◌-◌, ◌*◌, ◌^◌, ◌≤◌, ◌<◌}
+use Rattle.std.specs.Prelude.{◌≡◌, refl, Bool, ℕ, zero, suc, ◌+◌, ◌-◌, ◌*◌, ◌^◌, ◌≤◌, ◌<◌, Some, None}
 use Rattle.std.proofs.Common.{sym, ◌∙◌, sub-one, arith}
 use Rattle.std.proofs.Math.Path.{ap}
 use Rattle.std.proofs.Math.Bool.{true, false}
@@ -7,7 +7,6 @@ use mathlib.Core.List.{List, [], append-nil}
 use Rattle.std.proofs.Math.Option.{Option, none, some, some-injective}
 use Rattle.std.proofs.Math.Nat.{two-pow-succ, one-le-pow}
 use Rattle.num.specs.declared.NonZeroPow2Usize.{NonZeroPow2Usize}
-use Rattle.num.specs.declared.Bound.TheVariants as bounds
 use Rattle.num.specs.Powers.{bound, bound_log2, half_bound}
 use Rattle.num.specs.Laws.{bounded, bound_power, half_bound_two, half_bound_more}
 use Rattle.model.specs.Structural.{block_type}
@@ -77,7 +76,7 @@ pub record Two (b : NonZeroPow2Usize) (d : ℕ) (s : List ℕ) (p : ℕ) : Type 
   pub wide : width (structural.listed d s b p) ≡ width (block_type 1 (structural.standing d s p))
   pub same : (fr : List ℕ) (bit : ℕ) → listed d s b p fr bit ≡ block d s 1 p fr bit
 
-pub list_two : {b : NonZeroPow2Usize} (d : ℕ) (s : List ℕ) (p : ℕ) → FairBound b → bounds.Not ≡ half_bound b.0 → Two b d s p
+pub list_two : {b : NonZeroPow2Usize} (d : ℕ) (s : List ℕ) (p : ℕ) → FairBound b → None ≡ half_bound b.0 → Two b d s p
 unfolding listed blocks structural.listed
 list_two {b} d s p f h = go f.exponent (power_of f)
   where
@@ -95,7 +94,7 @@ pub record Halved (b h : NonZeroPow2Usize) (d : ℕ) (s : List ℕ) (p : ℕ) : 
   pub wide : width (structural.listed d s b p) ≡ suc (h.0 * width (structural.standing d s p)) + width (structural.listed d s h p)
   pub same : (fr : List ℕ) (bit : ℕ) → listed d s b p fr bit ≡ both_numbered (block d s h.0 p fr bit) (listed d s h p fr (bit + 1 + h.0 * width (structural.standing d s p)))
 
-pub list_more : {b h : NonZeroPow2Usize} (d : ℕ) (s : List ℕ) (p : ℕ) → FairBound b → bounds.Of h ≡ half_bound b.0 → Halved b h d s p
+pub list_more : {b h : NonZeroPow2Usize} (d : ℕ) (s : List ℕ) (p : ℕ) → FairBound b → Some h ≡ half_bound b.0 → Halved b h d s p
 unfolding listed blocks structural.listed
 list_more {b} {h} d s p f q = go f.exponent (power_of f)
   where

@@ -1,10 +1,7 @@
--- The bytes joined so far are zero exactly if the first i are clear. The measure is how many are left to join.
-use Prim.Native.Nat.{◌-◌}
-use Rattle.value.specs.Clear.{Joining}
+-- The bytes joined so far are zero exactly if they are clear.
+use Rattle.std.proofs.Common.{◌≡◌, eqb}
+use Rattle.value.specs.Record.{clear}
 use Rattle.value.proofs.is_clear.Given as goal
 
-abbrev pub invariant-loop-i : goal.invariant-loop-i
-invariant-loop-i l = Joining l.val l.b l.n l.any l.i
-
-abbrev pub decreases-loop-i : goal.decreases-loop-i
-decreases-loop-i l = l.n - l.i
+abbrev pub invariant-loop-x : goal.invariant-loop-x
+invariant-loop-x l = eqb l.any 0 ≡ clear l.val l.b l.x-index

@@ -9,6 +9,6 @@ pub returns-then-half-lt2 : goal.returns-then-half-lt2
 unfolding half_bound
 returns-then-half-lt2 c = rw (lt-ltb (c.args.self.0 / 2) 2 (omega arith))
 
-pub returns-else-half-lt2 : goal.returns-else-half-lt2
+pub returns : goal.returns
 unfolding half_bound
-returns-else-half-lt2 c = rw (le-ltb (c.args.self.0 / 2) 2 (omega arith))
+returns c = rw (le-ltb (c.args.self.0 / 2) 2 (omega arith))

@@ -1,3 +1,0 @@
--- What is proved of the definitions.
-pub mod Handed
-pub mod Reading

@@ -16,20 +16,20 @@ use Rattle.model.specs.Options.{any}
 use Rattle.model.specs.Frames.{width}
 use Rattle.types.specs.declared.Head.{Head}
 use Rattle.types.specs.Record.{head_at}
-use Rattle.types.specs.Heads.{Fair, FairBound}
+use Rattle.types.specs.Heads.{Fair}
 use Rattle.structural.specs.Forms.{Stands, standing, listed}
 use Rattle.structural.proofs.Laws.Forms.{stands_inside}
 use Rattle.bits.specs.Bits.{bits_at, Inside}
-use Rattle.told.specs.declared.Parts.{Parts}
-use Rattle.told.specs.declared.Parts.TheVariants.{Copies, Types}
+use Rattle.types.specs.declared.forms.Parts.{Parts}
+use Rattle.types.specs.declared.forms.Parts.TheVariants.{Copies, Types}
 use Rattle.told.specs.Forms.{GivenParts, after_at}
 use Rattle.told.specs.Widths.{Wide}
 use Rattle.told.specs.Laws.Trees.{given_one, one_given}
 use Rattle.told.specs.Laws.Widths.{width_there}
 use Rattle.rebuild.specs.Forms.{most_records}
-use Rattle.record.specs.declared.Form.{Form}
-use Rattle.record.specs.declared.Form.TheVariants as form
-use Rattle.record.specs.Forms.{form_of}
+use Rattle.types.specs.declared.forms.Form.{Form}
+use Rattle.types.specs.declared.forms.Form.TheVariants as form
+use Rattle.types.specs.Forms.{form_of}
 use Rattle.accept.specs.Forms.{tag_at, plus, seen, row_width, seen_row, seen_sum, seen_block, seen_list}
 use Rattle.accept.specs.Answers.{cut, answer, both_of, plain_form, Plain, Padded}
 use Rattle.accept.specs.Laws.Formed.{BitsSeen, ProductSeen, SumSeen, ListSeen, PayloadSeen, Formed, formed}
@@ -93,22 +93,22 @@ counted_both {x} {y} {n} {m} {z} e f g = both_known x y (Some z) n m e f (ap (λ
 
 -- LISTS
 
-module _ {b : NonZeroPow2Usize} (d : ℕ) (s : List ℕ) (p : ℕ) (f : FairBound b) (o : Optional NonZeroPow2Usize) (u : o ≡ half_bound b.0) where
+module _ (d : ℕ) (s : List ℕ) (p : ℕ) (b : NonZeroPow2Usize) (o : Optional NonZeroPow2Usize) (u : o ≡ half_bound b) where
   pub two : o ≡ None → Two b d s p
-  two v = list_two d s p f (sym v ∙ u)
+  two v = list_two d s p (sym v ∙ u)
 
   pub halved : (a : NonZeroPow2Usize) → o ≡ Some a → Halved b a d s p
-  halved a v = list_more d s p f (sym v ∙ u)
+  halved a v = list_more d s p (sym v ∙ u)
 
   pub listed_two : (fr : List ℕ) (bit : ℕ) (x : Optional ℕ) → o ≡ None → x ≡ answer (seen_block d s 1 p fr bit) → x ≡ answer (seen_list d s b p fr bit)
   listed_two fr bit x v h = h ∙ sym (ap answer ((two v).same fr bit))
 
-  pub listed_more : (fr : List ℕ) (bit : ℕ) (a : NonZeroPow2Usize) (x y : Optional ℕ) (n w : ℕ) (E W : List ℕ) → o ≡ Some a → n ≡ a.0 → Stands d s E p → Wide s E W → w ≡ get_or W p 0
+  pub listed_more : (fr : List ℕ) (bit : ℕ) (a : NonZeroPow2Usize) (x y : Optional ℕ) (n w : ℕ) (E W : List ℕ) → o ≡ Some a → n ≡ a.value → Stands d s E p → Wide s E W → w ≡ get_or W p 0
       → x ≡ answer (seen_block d s n p fr bit) → y ≡ answer (seen_list d s a p fr (bit + 1 + n * w)) → both_of x y ≡ answer (seen_list d s b p fr bit)
   listed_more fr bit a x y n w E W v i g q j l m =
-      let r : n * w ≡ a.0 * width (standing d s p) = ap (λ n. n * w) i ∙ ap (λ w. a.0 * w) (j ∙ q.right d p g) in
+      let r : n * w ≡ a.value * width (standing d s p) = ap (λ n. n * w) i ∙ ap (λ w. a.value * w) (j ∙ q.right d p g) in
       ap₂ both_of (l ∙ ap (λ n. answer (seen_block d s n p fr bit)) i) (m ∙ ap (λ r. answer (seen_list d s a p fr (bit + 1 + r))) r)
-      ∙ sym (ap answer ((halved a v).same fr bit) ∙ answer_plus (seen_block d s a.0 p fr bit) (seen_list d s a p fr (bit + 1 + a.0 * width (standing d s p))))
+      ∙ sym (ap answer ((halved a v).same fr bit) ∙ answer_plus (seen_block d s a.value p fr bit) (seen_list d s a p fr (bit + 1 + a.value * width (standing d s p))))
 
 -- ROOM IN THE FRAME
 
@@ -136,8 +136,8 @@ module _ {d : ℕ} {s E : List ℕ} {p : ℕ} (g : Stands d s E p) {W : List ℕ
   block_run fr bit n i = let x = i.0 in let y = i.1 in let t = times n in (omega arith, omega arith)
 
   -- the block of half a bound, and the list behind it
-  module _ (fr : List ℕ) (bit : ℕ) {b c : NonZeroPow2Usize} (n : ℕ) (h : Halved b c d s p) (e : n ≡ c.0) (i : Inside fr bit (width (listed d s b p))) where
-    half_times : n * w ≡ c.0 * width (standing d s p)
+  module _ (fr : List ℕ) (bit : ℕ) {b c : NonZeroPow2Usize} (n : ℕ) (h : Halved b c d s p) (e : n ≡ c.value) (i : Inside fr bit (width (listed d s b p))) where
+    half_times : n * w ≡ c.value * width (standing d s p)
     half_times = times n ∙ ap (λ n. n * width (standing d s p)) e
 
     pub half_mul : Fits w64 (n * w)
@@ -147,7 +147,7 @@ module _ {d : ℕ} {s E : List ℕ} {p : ℕ} (g : Stands d s E p) {W : List ℕ
     half_next = let l = h.wide in let b = i.1 in omega (arith, half_times)
 
     pub half_block : Inside fr bit (1 + n * width (standing d s p))
-    half_block = let l = h.wide in let t : n * width (standing d s p) ≡ c.0 * width (standing d s p) = ap (λ n. n * width (standing d s p)) e in let x = i.0 in let y = i.1 in (omega arith, omega arith)
+    half_block = let l = h.wide in let t : n * width (standing d s p) ≡ c.value * width (standing d s p) = ap (λ n. n * width (standing d s p)) e in let x = i.0 in let y = i.1 in (omega arith, omega arith)
 
     pub half_list : Inside fr (bit + 1 + n * w) (width (listed d s c p))
     half_list = let l = h.wide in let t = half_times in let x = i.0 in let y = i.1 in (omega arith, omega arith)

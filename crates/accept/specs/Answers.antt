@@ -12,11 +12,11 @@ use Rattle.model.specs.Operations.{lowering}
 use Rattle.types.specs.Record.{head_at}
 use Rattle.types.specs.Heads.{Fair}
 use Rattle.types.specs.Trees.{type_in}
-use Rattle.told.specs.declared.Parts.{Parts}
-use Rattle.told.specs.declared.Parts.TheVariants.{Copies, Types}
-use Rattle.record.specs.declared.Form.{Form}
-use Rattle.record.specs.declared.Form.TheVariants as form
-use Rattle.record.specs.Forms.{form_of}
+use Rattle.types.specs.declared.forms.Parts.{Parts}
+use Rattle.types.specs.declared.forms.Parts.TheVariants.{Copies, Types}
+use Rattle.types.specs.declared.forms.Form.{Form}
+use Rattle.types.specs.declared.forms.Form.TheVariants as form
+use Rattle.types.specs.Forms.{form_of}
 use Rattle.rebuild.specs.Forms.{most_records}
 use Rattle.accept.specs.Forms.{place, types_in}
 use Rattle.reply.specs.declared.Refusal.{Refusal}

@@ -11,8 +11,8 @@ use Rattle.model.specs.Frames.{Place, width, from_bits, padding}
 use Rattle.model.specs.Frames as frames
 use Rattle.structural.specs.Forms.{standing}
 use Rattle.bits.specs.Bits.{bits_at}
-use Rattle.told.specs.declared.Parts.{Parts}
-use Rattle.told.specs.declared.Parts.TheVariants.{Copies}
+use Rattle.types.specs.declared.forms.Parts.{Parts}
+use Rattle.types.specs.declared.forms.Parts.TheVariants.{Copies}
 use Rattle.told.specs.Forms.{after, hops}
 use Rattle.record.specs.Trees.{part}
 
@@ -130,4 +130,4 @@ seen_blocks d s zero p fr bit = seen_block d s 1 p fr bit
 seen_blocks d s (suc e) p fr bit = plus (seen_block d s (2 ^ suc e) p fr bit) (seen_blocks d s e p fr (bit + 1 + 2 ^ suc e * width (standing d s p)))
 
 unfoldable pub seen_list : ℕ → List ℕ → NonZeroPow2Usize → ℕ → List ℕ → ℕ → Option ℕ
-seen_list d s b p fr bit = seen_blocks d s (bound_log2 b.0 - 1) p fr bit
+seen_list d s b p fr bit = seen_blocks d s (bound_log2 b.value - 1) p fr bit

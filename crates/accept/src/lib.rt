@@ -5,12 +5,11 @@
 ghost use Rattle.std.specs.Prelude.{◌≡◌, false, ◌≤◌, ◌+◌, ◌*◌};
 ghost use Rattle.std.proofs.Math.Option.{some};
 ghost use Rattle.model.specs.Frames.{width};
-ghost use Rattle.types.specs.Heads.{FairBound};
 ghost use Rattle.types.specs.Steps.{Given};
 ghost use Rattle.types.specs.Trees.{type_in};
 ghost use Rattle.structural.specs.Forms.{most_parts, Stands, standing, listed};
 ghost use Rattle.bits.specs.Bits.{Inside};
-ghost use Rattle.told.specs.declared.Parts.TheVariants.{Types};
+ghost use Rattle.types.specs.declared.forms.Parts.TheVariants.{Types};
 ghost use Rattle.told.specs.Forms.{GivenParts};
 ghost use Rattle.told.specs.Widths.{Wide};
 ghost use Rattle.rebuild.specs.Forms.{most_records};
@@ -21,16 +20,12 @@ ghost use Rattle.types.specs.Entries.{ends, widths};
 use array::btree_split_index;
 use num::NonZeroPow2Usize;
 use reader::{bit_at, zeros_at};
-use record::{Form, form_of};
 use reply::Refusal;
-use told::{Parts, after_part, hop};
-use types::Table;
+use told::{after_part, hop};
+use types::{Form, LEVELS, Parts, Table};
 
 // No value has more records than this, 33 for each of 65,536 of its shape: counting stops here.
 const MOST: usize = 2162688;
-
-// The levels that a type may have.
-const LEVELS: usize = 32;
 
 // Both, added up, as far as they are counted.
 fn both(n: usize, m: usize) -> usize
@@ -46,10 +41,11 @@ fn is_plain(table: &Table<'_>, at: usize, n: usize, parts: Parts) -> bool
 {
     2 <= n
         && matches!(parts, Parts::Copies)
-        && matches!(form_of(table.head(at)), Form::Bit | Form::Integer(_))
+        && matches!(table.head(at).form(), Form::Bit | Form::Integer(_))
 }
 
 // Sees what stands at record `at`, a type or a Variant's payload, with `level` levels from there on, in the frame's bits from `bit` on.
+// From the other walks over a type this one differs in what it does with a bit, a row, a sum and a block: it counts their records and asks that their padding is zeros.
 #[cycle(see_block_see_list_see_record_see_row_see_sum)]
 fn see_record(table: &Table<'_>, at: usize, level: usize, frame: &[u8], bit: usize) -> Option<usize>
     requires stands { Stands level table.now.ty.now (ends table.now.entries.now) at }
@@ -57,7 +53,7 @@ fn see_record(table: &Table<'_>, at: usize, level: usize, frame: &[u8], bit: usi
     requires inside { Inside frame.now bit (width (standing level table.now.ty.now at)) }
     ensures { result ≡ answer (seen level table.now.ty.now at frame.now bit) }
 {
-    match form_of(table.head(at)) {
+    match table.head(at).form() {
         Form::Nothing => None,
         Form::Bit | Form::Integer(_) => Some(1),
         Form::Product(parts, n) => Some(both(
@@ -182,7 +178,6 @@ fn see_list(
     frame: &[u8],
     bit: usize,
 ) -> Option<usize>
-    requires fair_bound { FairBound bound }
     requires stands { Stands level table.now.ty.now (ends table.now.entries.now) at }
     requires wide { Wide table.now.ty.now (ends table.now.entries.now) (widths table.now.entries.now) }
     requires inside { Inside frame.now bit (width (listed level table.now.ty.now bound at)) }
@@ -207,8 +202,9 @@ pub fn accept(table: &Table<'_>, frame: &[u8]) -> Result<usize, Refusal>
     ensures { outcome_of result ≡ accepted (type_in table.now.ty.now) frame.now }
 {
     let width = table.width(0);
+    let size = width.div_ceil(8);
     let len = frame.len();
-    if len != (width + 7) / 8 {
+    if len != size {
         return Err(Refusal::FrameLength);
     }
     if !zeros_at(frame, width, len * 8 - width) {
@@ -225,5 +221,5 @@ pub fn part_records(table: &Table<'_>, at: usize, level: usize, frame: &[u8], bi
     requires counted { Counted (seen level table.now.ty.now at frame.now bit) }
     ensures { seen level table.now.ty.now at frame.now bit ≡ some result }
 {
-    see_record(table, at, level, frame, bit).unwrap_or(0)
+    see_record(table, at, level, frame, bit).unwrap()
 }

@@ -23,11 +23,15 @@ pub fn btree_split_index(n: usize) -> usize
     n - n.next_power_of_two() / 2
 }
 
-// The record of a unit.
-const UNIT: u8 = 0;
+// The records of a shape; a byte above them is none.
+// They are bytes and no enum: each is tested once, as it stands in the file, and behind the last record a byte answers that fails every test.
+pub const UNIT: u8 = 0;
 
-// The record of a pair; a byte above it is no record.
-const PAIR: u8 = 3;
+pub const LEFT: u8 = 1;
+
+pub const RIGHT: u8 = 2;
+
+pub const PAIR: u8 = 3;
 
 // The place after the one tree of shape records that starts at `at`, or `None` where the records end first or one is above 3.
 // `due` counts the open children that come after the one being read.

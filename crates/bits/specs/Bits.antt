@@ -1,6 +1,5 @@
 -- Bits of a byte slice, as the contracts say them: bit 0 is the highest bit of byte 0 (01, 'Frame'), and a writer is told by what it puts where.
 use Rattle.std.specs.Prelude.{◌≡◌, Bool, true, false, List, ◌++◌, ℕ, ◌+◌, ◌-◌, ◌*◌, ◌^◌, ◌≤◌, ◌<◌, length, take, drop}
-use Rattle.model.specs.Options.{any}
 use Rattle.model.specs.Bytes.{bits_of}
 
 -- l with what stands from `at` on replaced by s
@@ -23,30 +22,6 @@ Inside l at n = (at + n ≤ 8 * length l) × (at + n < 2 ^ 64)
 pub record Wrote (d : List ℕ) (at : ℕ) (s : List Bool) (l : List ℕ) : Type 0 where
   pub same : length l ≡ length d
   pub bits : bits_of l ≡ splice (bits_of d) at s
-
--- a step of a writer that has n bits to write: it wrote the first r bits of s, one or more
-pub record Stepped (n : ℕ) (d : List ℕ) (at : ℕ) (s : ℕ → List Bool) (l : List ℕ) (r : ℕ) : Type 0 where
-  pub some : 0 < r
-  pub most : r ≤ n
-  pub wrote : Wrote d at (s r) l
-
--- a step of a search for a bit that is 1 among n: the first r are 0; and there is one, if r is 0
-pub record Seen (l : List ℕ) (at n r : ℕ) : Type 0 where
-  pub most : r ≤ n
-  pub clear : any (bits_at l at r) ≡ false
-  pub found : r ≡ 0 → any (bits_at l at n) ≡ true
-
--- a step of a comparison of n bits of l with those of m: the first r are the same; and one is not, if r is 0
-pub record Alike (l : List ℕ) (at : ℕ) (m : List ℕ) (from n r : ℕ) : Type 0 where
-  pub most : r ≤ n
-  pub same : bits_at l at r ≡ bits_at m from r
-  pub other : r ≡ 0 → bits_at l at n ≡ bits_at m from n → ⊥
-
--- of n bits of l and of m the first r are the same; and all are, if r is n, or one is not
-pub record Common (l : List ℕ) (at : ℕ) (m : List ℕ) (from n r : ℕ) : Type 0 where
-  pub most : r ≤ n
-  pub same : bits_at l at r ≡ bits_at m from r
-  pub other : r < n → bits_at l at n ≡ bits_at m from n → ⊥
 
 -- the answer to a question
 pub record Tells (r : Bool) (P : Type 0) : Type 0 where

@@ -2,14 +2,10 @@
 // The last four are of parts of which one lies within the other: there the order counts, or the second edit is refused. Prints the frame that each pair leaves, in hexadecimal.
 #![tactic(auto)]
 
-ghost use Rattle.std.specs.Prelude.{◌≤◌, length};
-ghost use Rattle.io.specs.Counts.{IsPrefixLen};
-
-use files::read_file;
+use files::read_into;
 use niegluk::{part_edit, part_read, write_frame};
-use std::io;
 use std::rt::Files;
-use text::{write_hex, write_refused};
+use std::{fmt, io};
 
 // An edit of the job's frame: the file of a part's path, and that of the part's new value, or none for the value that is there.
 #[derive(Clone, Copy)]
@@ -51,95 +47,81 @@ const DENSITY: Edit = Edit {
     value: Some("density.val"),
 };
 
-// Writes the frame of the job in the current folder over the front of `frame`, and answers its length; 0 where it is refused.
-fn job_frame(rt: &impl Files, ty: &[u8], frame: &mut [u8]) -> usize
-    ensures { IsPrefixLen result frame.new }
-{
+// Writes the frame of the job in the current folder over the front of `frame`, and lends it: nothing where it is refused.
+fn job_frame<'a>(rt: &impl Files, ty: &[u8], frame: &'a mut [u8]) -> &'a mut [u8] {
     let mut value = [0u8; 1024];
-    let n = read_file(rt, "job.val", &mut value);
-    write_frame(ty, &value[..n], frame).unwrap_or(0)
+    let value = read_into(rt, "job.val", &mut value);
+    match write_frame(ty, value, frame) {
+        Ok(n) => &mut frame[..n],
+        Err(_) => &mut [],
+    }
 }
 
-// Writes the value file of a part over the front of `value`, and answers its length; 0 where it is refused.
-fn read_part(ty: &[u8], frame: &[u8], path: &[u8], value: &mut [u8]) -> usize
-    ensures { IsPrefixLen result value.new }
-{
-    part_read(ty, frame, path, value).unwrap_or(0)
-}
-
-// Edits a part, and prints the line of a refusal.
-fn edit_part(
-    rt: &impl Print,
-    ty: &[u8],
-    frame: &mut [u8],
-    path: &[u8],
-    value: &[u8],
-) -> io::Result<()> {
-    let Err(x) = part_edit(ty, frame, path, value) else {
-        return Ok(());
-    };
-    let mut line = [0u8; 12];
-    let k = write_refused(x, &mut line);
-    rt.write_all(&line[..k])
+// Writes the value file of a part over the front of `value`, and lends it: nothing where it is refused.
+fn read_part<'a>(ty: &[u8], frame: &[u8], path: &[u8], value: &'a mut [u8]) -> &'a [u8] {
+    match part_read(ty, frame, path, value) {
+        Ok(n) => &value[..n],
+        Err(_) => &[],
+    }
 }
 
 // Makes an edit, and prints the line of a refusal.
 fn apply(rt: &(impl Files + Print), edit: Edit, ty: &[u8], frame: &mut [u8]) -> io::Result<()> {
     let mut path = [0u8; 16];
     let mut value = [0u8; 1024];
-    let n = read_file(rt, edit.path, &mut path);
-    let m = match edit.value {
-        Some(name) => read_file(rt, name, &mut value),
-        None => read_part(ty, frame, &path[..n], &mut value),
+    let path = read_into(rt, edit.path, &mut path);
+    let value = match edit.value {
+        Some(name) => read_into(rt, name, &mut value),
+        None => read_part(ty, frame, path, &mut value),
     };
-    edit_part(rt, ty, frame, &path[..n], &value[..m])
+    match part_edit(ty, frame, path, value) {
+        Ok(_) => Ok(()),
+        Err(x) => println!(rt; "refused {}", u32::from(x)),
+    }
 }
 
-// Prints a frame, two digits a byte.
-fn show(rt: &impl Print, frame: &[u8]) -> io::Result<()>
-    requires { length frame.now ≤ 4096 }
-{
-    let mut line = [0u8; 8192];
-    let k = write_hex(frame, &mut line);
-    rt.write_all(&line[..k])?;
-    println!(rt; "")
+// Shown as two hexadecimal digits a byte.
+#[derive(Clone, Copy)]
+struct Hex<'a>(&'a [u8]);
+
+impl fmt::Display for Hex<'_> {
+    fn fmt<W: fmt::Write>(&self, f: &mut fmt::Formatter<W>) -> fmt::Result {
+        for byte in self.0 {
+            write!(f, "{byte:02x}")?;
+        }
+        Ok(())
+    }
 }
 
-// Makes edits of a frame, one after the other, and prints what they leave behind their name.
-fn edit_all(
-    rt: &(impl Files + Print),
-    name: &str,
-    ty: &[u8],
-    frame: &mut [u8],
-    edits: &[Edit],
-) -> io::Result<()>
-    requires { length frame.old ≤ 4096 }
-{
+// Edits the job's frame, one edit after the other, and prints what they leave behind their name.
+// The buffers are on the stack, as all memory of ours (README, Limits).
+fn run(rt: &(impl Files + Print), name: &str, edits: &[Edit]) -> io::Result<()> {
+    let mut ty = [0u8; 4096];
+    let mut frame = [0u8; 4096];
+    let ty = read_into(rt, "job.typ", &mut ty);
+    let frame = job_frame(rt, ty, &mut frame);
     print!(rt; "{name}")?;
     for &edit in edits {
         apply(rt, edit, ty, frame)?;
     }
-    show(rt, frame)
-}
-
-// Edits of the job's frame, one after the other.
-fn run(rt: &(impl Files + Print), name: &str, edits: &[Edit]) -> io::Result<()> {
-    let mut ty = [0u8; 4096];
-    let mut frame = [0u8; 4096];
-    let n = read_file(rt, "job.typ", &mut ty);
-    let k = job_frame(rt, &ty[..n], &mut frame);
-    edit_all(rt, name, &ty[..n], &mut frame[..k], edits)
+    println!(rt; "{}", Hex(frame))
 }
 
 fn main(rt: HostRuntime) -> io::Result<()> {
-    run(&rt, "the job: ", &[])?;
-    run(&rt, "four hits, density: ", &[FOUR_HITS, DENSITY])?;
-    run(&rt, "density, four hits: ", &[DENSITY, FOUR_HITS])?;
-    run(&rt, "four hits, five hits: ", &[FOUR_HITS, FIVE_HITS])?;
-    run(&rt, "five hits: ", &[FIVE_HITS])?;
-    run(&rt, "the hits already there: ", &[SAME_HITS])?;
-    run(&rt, "first hit, four hits: ", &[FIRST_HIT, FOUR_HITS])?;
-    run(&rt, "four hits, first hit: ", &[FOUR_HITS, FIRST_HIT])?;
-    run(&rt, "first hit, no hits: ", &[FIRST_HIT, NO_HITS])?;
-    run(&rt, "no hits, first hit: ", &[NO_HITS, FIRST_HIT])
+    let runs: [(&str, &[Edit]); 10] = [
+        ("the job: ", &[]),
+        ("four hits, density: ", &[FOUR_HITS, DENSITY]),
+        ("density, four hits: ", &[DENSITY, FOUR_HITS]),
+        ("four hits, five hits: ", &[FOUR_HITS, FIVE_HITS]),
+        ("five hits: ", &[FIVE_HITS]),
+        ("the hits already there: ", &[SAME_HITS]),
+        ("first hit, four hits: ", &[FIRST_HIT, FOUR_HITS]),
+        ("four hits, first hit: ", &[FOUR_HITS, FIRST_HIT]),
+        ("first hit, no hits: ", &[FIRST_HIT, NO_HITS]),
+        ("no hits, first hit: ", &[NO_HITS, FIRST_HIT]),
+    ];
+    for (name, edits) in runs {
+        run(&rt, name, edits)?;
+    }
+    Ok(())
 }

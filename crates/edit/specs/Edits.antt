@@ -20,36 +20,25 @@ use Rattle.model.proofs.Laws.FrameFiles.{length_frame, length_frame_file, bytes_
 use Rattle.model.proofs.Laws.Operations.{there, replaced_file, edited_bits, framed_is}
 use Rattle.model.proofs.Laws.Demands.{edit_in_place}
 use Rattle.reply.specs.declared.Refusal.{Refusal}
-use Rattle.types.specs.Trees.{tree, type_in}
+use Rattle.types.specs.Trees.{tree}
 use Rattle.bits.specs.Bits.{Wrote}
 use Rattle.bits.specs.Laws.Integers.{bytes_each}
 use Rattle.value.specs.Check.{file_answer}
 use Rattle.told.specs.Forms as told
 use Rattle.told.specs.Laws.Whole.{whole_told}
-use Rattle.told.specs.Widths.{Wide}
 use Rattle.frame.specs.Forms.{frame_at, Fitted, Framed}
 use Rattle.frame.proofs.Laws.Told.{shape_fitted, shape_framed}
-use Rattle.accept.specs.Answers.{Lowered, accepted, outcome_of}
 use Rattle.delivery.specs.Delivering.{Delivers, deliver_refusal}
 use Rattle.delivery.specs.Values.{value_refused, value_read, value_valid}
-use Rattle.part.specs.declared.Spot.{Spot}
-use Rattle.part.specs.Forms.{found_in}
 use Rattle.part.specs.Laws.Holds.{holding_type, holding_inside}
-use Rattle.edit.specs.Opened.{Opened, frame_refused, Arrived, lies, path_refused}
+use Rattle.edit.specs.Opened.{Opened, Arrived, lies, PartRefused, bad_frame, bad_path}
 
--- rows 11 and 12
-module _ {s : List ℕ} (l : Lowered s) (fr : List ℕ) (c : Result ℕ Refusal) (k : outcome_of c ≡ accepted (type_in s) fr) (path val : List ℕ) where
-  pub edit_bad_frame : {x : Refusal} → c ≡ Err x → Delivers (edited after s fr path val) fr fr (Err x)
-  unfolding edited
-  edit_bad_frame {x} h = let (e, f) = frame_refused l fr c k h in deliver_refusal (edited after s fr path val) fr x (rw (e, f) refl)
-
--- rows 13 and 14
-module _ {s E W fr : List ℕ} (w : Wide s E W) (o : Opened s E fr) (path val : List ℕ) {r : Result Spot Refusal} (e : r ≡ found_in s E W fr path) where
-  pub edit_bad_path : {x : Refusal} → r ≡ Err x → Delivers (edited after s fr path val) fr fr (Err x)
-  unfolding edited
-  edit_bad_path {x} h =
-      deliver_refusal (edited after s fr path val) fr x
-      (rw (o.lowers, o.reads) (path_refused w o path e (λ f. value_of f.type val >>= λ v. framed after s (replaced f (value_file (tree 32 s 0) o.value) val)) h))
+-- rows 11 to 14
+pub edit_bad_part : {s E fr path : List ℕ} {x : Refusal} → PartRefused s E fr path x → (val : List ℕ) → Delivers (edited after s fr path val) fr fr (Err x)
+unfolding edited
+edit_bad_part {s} {E} {fr} {path} {x} (bad_frame e f) val = deliver_refusal (edited after s fr path val) fr x (rw (e, f) refl)
+edit_bad_part {s} {E} {fr} {path} {x} (bad_path o f) val =
+    deliver_refusal (edited after s fr path val) fr x (rw (o.lowers, o.reads) (f (λ f. value_of f.type val >>= λ v. framed after s (replaced f (value_file (tree 32 s 0) o.value) val))))
 
 module _ {s E fr path : List ℕ} {o : Opened s E fr} {p d b : ℕ} (a : Arrived s E fr path o p d b) (val : List ℕ) {c : Result (ℕ × ℕ) Refusal} (k : c ≡ file_answer (tree d s p) val) where
   abbrev own : Ty

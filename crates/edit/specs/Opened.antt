@@ -157,3 +157,31 @@ module _ {s E W fr : List ℕ} (w : Wide s E W) (o : Opened s E fr) (path : List
             holding = path_holding o.holding q r;
             begins = r.begins ∙ zero-add (length r.part.ahead);
           }
+
+-- A PART, OR A REFUSAL
+
+-- rows 11 and 12, or rows 13 and 14 whatever is done with the part
+pub data PartRefused (s E fr path : List ℕ) (x : Refusal) : Type 0 where
+  bad_frame : lowering s ≡ done (tree 32 s 0) → unframed after s fr ≡ refused (refusal_number x) → PartRefused s E fr path x
+  bad_path : (o : Opened s E fr) → ((f : Found → Outcome (List ℕ)) → (steps path >>= λ q. or_refuse no_such_part (found (tree 32 s 0) q (value_file (tree 32 s 0) o.value)) >>= f) ≡ refused (refusal_number x)) → PartRefused s E fr path x
+
+-- the frame was accepted and the path leads to a part, or a row refuses
+pub record PartTold (s E fr path : List ℕ) (r : Result Spot Refusal) : Type 0 where
+  pub reached : {x : Spot} → r ≡ Ok x → (o : Opened s E fr) × Arrived s E fr path o x.at x.level x.bit
+  pub refused : {x : Refusal} → r ≡ Err x → PartRefused s E fr path x
+
+module _ {s : List ℕ} (l : Lowered s) {fr : List ℕ} {c : Result ℕ Refusal} (k : outcome_of c ≡ accepted (type_in s) fr) {E : List ℕ} (path : List ℕ) where
+  -- the frame is not accepted
+  pub frame_told : {x : Refusal} → c ≡ Err x → PartTold s E fr path (Err x)
+  frame_told {x} h = record {
+    reached = λ z. absurd (let y : ◌≡◌ {A = ℕ} 0 1 = cc in omega arith);
+    refused = λ {x = y} z. let (e, f) = frame_refused l fr c k h in let q : x ≡ y = cc in rw (← q) (bad_frame e f);
+  }
+
+  -- it is, and the path was followed
+  module _ {W : List ℕ} (g : Given 32 false s E 0) (w : Wide s E W) (a : (i : ℕ) → get_or s i 0 < 256) (b : (i : ℕ) → get_or fr i 0 < 256) {m : ℕ} (h : c ≡ Ok m) where
+    pub path_told : {r : Result Spot Refusal} → r ≡ found_in s E W fr path → PartTold s E fr path r
+    path_told e = let o = opened l fr c k g w a b h in record {
+      reached = λ j. (o, arrived w o path e j);
+      refused = λ j. bad_path o (λ f. path_refused w o path e f j);
+    }

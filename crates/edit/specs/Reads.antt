@@ -1,9 +1,9 @@
 -- What `read_part` knows at each of its answers: the value and the part as `Opened` tells them, and the number of the part's records, which are some of the whole's.
-use Rattle.std.specs.Prelude.{◌≡◌, refl, List, ◌++◌, ℕ, ◌+◌, ◌*◌, ◌≤◌, ◌<◌, length, Result, Ok, Err}
+use Rattle.std.specs.Prelude.{◌≡◌, refl, List, ◌++◌, ℕ, ◌+◌, ◌*◌, ◌≤◌, ◌<◌, length, Ok, Err}
 use Rattle.std.proofs.Common.{sym, ap, subst, ◌∙◌, arith, Fits, length-append}
 use Rattle.std.proofs.Math.Option.{some, some-injective}
 use Rattle.std.specs.Int.{w64}
-use Rattle.model.specs.Outcome.{done}
+use Rattle.model.specs.Outcome.{done, refused}
 use Rattle.model.specs.ValueFiles.{encode, value_file}
 use Rattle.model.specs.Frames.{after}
 use Rattle.model.specs.Paths.{part_records}
@@ -12,31 +12,26 @@ use Rattle.model.proofs.Laws.ValueFiles.{length_value_file}
 use Rattle.model.proofs.Laws.Operations.{part_file}
 use Rattle.reply.specs.declared.Refusal.{Refusal}
 use Rattle.reply.specs.declared.Refusal.TheVariants.{NoRoom}
-use Rattle.types.specs.Trees.{tree, type_in}
+use Rattle.reply.specs.Numbers.{refusal_number}
+use Rattle.types.specs.Trees.{tree}
 use Rattle.structural.specs.Writing.{Wrote}
-use Rattle.told.specs.Widths.{Wide}
 use Rattle.rebuild.specs.Forms.{most_records}
 use Rattle.record.specs.Marks.{written}
 use Rattle.accept.specs.Forms.{seen}
-use Rattle.accept.specs.Answers.{Lowered, accepted, outcome_of, Counted}
+use Rattle.accept.specs.Answers.{Counted}
 use Rattle.unframe.specs.Forms.{standing, Ready, Placed}
 use Rattle.delivery.specs.Delivering.{Delivers, deliver_refusal, deliver_no_room, deliver_result}
-use Rattle.part.specs.declared.Spot.{Spot}
-use Rattle.part.specs.Forms.{found_in}
 use Rattle.part.specs.Laws.Holds.{holding_seen, holding_standing}
-use Rattle.edit.specs.Opened.{Opened, frame_refused, Arrived, lies, path_refused}
+use Rattle.edit.specs.Opened.{Opened, Arrived, lies, PartRefused, bad_frame, bad_path}
 
--- rows 11 and 12
-module _ {s : List ℕ} (l : Lowered s) (fr : List ℕ) (c : Result ℕ Refusal) (k : outcome_of c ≡ accepted (type_in s) fr) (path : List ℕ) where
-  pub read_bad_frame : {O : List ℕ} {x : Refusal} → c ≡ Err x → Delivers (part_read after s fr path) O O (Err x)
-  unfolding part_read
-  read_bad_frame {O} {x} h = let (e, f) = frame_refused l fr c k h in deliver_refusal (part_read after s fr path) O x (rw (e, f) refl)
+-- rows 11 to 14
+pub part_refused : {s E fr path : List ℕ} {x : Refusal} → PartRefused s E fr path x → part_read after s fr path ≡ refused (refusal_number x)
+unfolding part_read
+part_refused (bad_frame e f) = rw (e, f) refl
+part_refused {s} (bad_path o f) = rw (o.lowers, o.reads) (f (λ f. done (part_records f (value_file (tree 32 s 0) o.value))))
 
--- rows 13 and 14
-module _ {s E W fr : List ℕ} (w : Wide s E W) (o : Opened s E fr) (path : List ℕ) {r : Result Spot Refusal} (e : r ≡ found_in s E W fr path) where
-  pub read_bad_path : {O : List ℕ} {x : Refusal} → r ≡ Err x → Delivers (part_read after s fr path) O O (Err x)
-  unfolding part_read
-  read_bad_path {O} {x} h = deliver_refusal (part_read after s fr path) O x (rw (o.lowers, o.reads) (path_refused w o path e (λ f. done (part_records f (value_file (tree 32 s 0) o.value))) h))
+pub read_bad_part : {s E fr path : List ℕ} {x : Refusal} → PartRefused s E fr path x → (O : List ℕ) → Delivers (part_read after s fr path) O O (Err x)
+read_bad_part {s} {E} {fr} {path} {x} p O = deliver_refusal (part_read after s fr path) O x (part_refused p)
 
 module _ {s E fr path : List ℕ} {o : Opened s E fr} {p d b : ℕ} (a : Arrived s E fr path o p d b) where
   -- the part's records are no more than the whole's

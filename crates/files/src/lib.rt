@@ -38,6 +38,7 @@ fn try_read<R: Files>(rt: &R, path: &str, buf: &mut [u8]) -> io::Result<usize>
 }
 
 // Reads the file of that name to the front of the buffer, and answers how many bytes; 0 where it cannot be opened or read.
+// No `Option`: a file that cannot be read counts as an empty one, so that each caller would only put the 0 in its place.
 pub fn read_file<R: Files>(rt: &R, path: &str, buf: &mut [u8]) -> usize
     ensures { IsPrefixLen result buf.new }
 {
@@ -49,6 +50,7 @@ fn left_over<R: Read>(reader: &mut R) -> usize
     ensures { result ≤ 3 }
 {
     let mut over = 0;
+    // Of a fixed size, since the libraries take no memory.
     let mut chunk = [0u8; 4096];
     for _ in 0..u64::MAX {
         let n = reader.read(&mut chunk).unwrap_or(0);
@@ -77,6 +79,22 @@ pub fn read_records<R: Files>(rt: &R, path: &str, buf: &mut [u8; 65540]) -> usiz
     ensures { IsPrefixLen result buf.new }
 {
     try_records(rt, path, buf).unwrap_or(0)
+}
+
+// Reads the file of that name to the front of the buffer, and lends what was read: nothing where it cannot be opened or read.
+pub fn read_into<'a, R: Files>(rt: &R, path: &str, buf: &'a mut [u8]) -> &'a [u8]
+    ensures { length result.now ≤ length buf.old }
+{
+    let n = read_file(rt, path, buf);
+    &buf[..n]
+}
+
+// As `read_into`, but that of a longer file so many bytes are lent as `read_records` answers.
+pub fn records_into<'a, R: Files>(rt: &R, path: &str, buf: &'a mut [u8; 65540]) -> &'a [u8]
+    ensures { length result.now ≤ 65540 }
+{
+    let n = read_records(rt, path, buf);
+    &buf[..n]
 }
 
 // Writes these bytes to an open file, waits until they are on the disk, and closes it.

@@ -2,37 +2,30 @@
 // its width, a value of another type, a type that does not lower, a file that is too long, a file that is missing, a type of width 0, four hits in a list bounded at eight.
 #![tactic(auto)]
 
-use files::read_file;
-use report::report;
+use report::report_files;
 use std::io;
-use std::rt::Files;
 
-fn show(rt: &(impl Files + Print), type_path: &str, value_path: &str) -> io::Result<()> {
-    let mut ty = [0u8; 65537];
-    let mut val = [0u8; 65537];
-    let mut out = [0u8; 140000];
-    let n = read_file(rt, type_path, &mut ty);
-    let m = read_file(rt, value_path, &mut val);
-    let k = report(&ty[..n], &val[..m], &mut out);
-    rt.write_all(&out[..k])
-}
-
-// What `show` does of the folder of that name.
+// The names of the type file and the value file in the folder of that name.
 macro_rules! folder {
-    ($rt:expr, $name:literal) => {
-        show($rt, concat!($name, "/job.typ"), concat!($name, "/job.val"))
+    ($name:literal) => {
+        (concat!($name, "/job.typ"), concat!($name, "/job.val"))
     };
 }
 
 fn main(rt: HostRuntime) -> io::Result<()> {
-    folder!(&rt, "eight-hits")?;
-    folder!(&rt, "mistyped")?;
-    folder!(&rt, "other-type")?;
-    folder!(&rt, "never")?;
-    folder!(&rt, "long-type")?;
-    folder!(&rt, "long-value")?;
-    folder!(&rt, "missing")?;
-    folder!(&rt, "nothing")?;
-    folder!(&rt, "width-0")?;
-    folder!(&rt, "four-hits")
+    for (type_name, value_name) in [
+        folder!("eight-hits"),
+        folder!("mistyped"),
+        folder!("other-type"),
+        folder!("never"),
+        folder!("long-type"),
+        folder!("long-value"),
+        folder!("missing"),
+        folder!("nothing"),
+        folder!("width-0"),
+        folder!("four-hits"),
+    ] {
+        report_files(&rt, type_name, value_name)?;
+    }
+    Ok(())
 }

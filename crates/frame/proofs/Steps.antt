@@ -17,13 +17,12 @@ use Rattle.model.specs.Bytes.{zeros}
 use Rattle.model.specs.Balanced.{btree}
 use Rattle.model.specs.Frames.{width}
 use Rattle.model.proofs.Laws.Options.{map_o_some}
-use Rattle.types.specs.Heads.{FairBound}
 use Rattle.structural.specs.Forms.{Stands}
 use Rattle.structural.specs.Forms as structural
 use Rattle.bits.specs.Bits.{Inside, Wrote}
 use Rattle.bits.specs.Laws.Writing.{wrote_then, wrote_same}
-use Rattle.told.specs.declared.Parts.{Parts}
-use Rattle.told.specs.declared.Parts.TheVariants.{Copies}
+use Rattle.types.specs.declared.forms.Parts.{Parts}
+use Rattle.types.specs.declared.forms.Parts.TheVariants.{Copies}
 use Rattle.told.specs.Forms.{GivenParts, hops, after_at}
 use Rattle.told.specs.Forms as told
 use Rattle.told.specs.Laws.Lists.{block_share}
@@ -223,19 +222,18 @@ module _ (d : ℕ) (s E val W : List ℕ) (n m p v : ℕ) {buf : List ℕ} {bit 
 
 -- n is the half h of the bound b, and k the share of m elements that the block of n takes
 pub record Half (b h : NonZeroPow2Usize) (m n k : ℕ) : Type 0 where
-  pub fair : FairBound h
-  pub less : h.0 < b.0
+  pub less : h.value < b.value
   pub most : k ≤ m
-  pub others : m - k < h.0
+  pub others : m - k < h.value
   pub same : (d : ℕ) (s val : List ℕ) (p v : ℕ) → listed d s val b m p v ≡ and_then (block d s val n k p v) (listed d s val h (m - k) p)
 
-pub half : (m n k : ℕ) {b h : NonZeroPow2Usize} {r : Option NonZeroPow2Usize} → FairBound b → m < b.0 → r ≡ half_bound b.0 → r ≡ Some h → n ≡ h.0 → k ≡ block_share m n → Half b h m n k
-half m n k {b} {h} f l q j e x =
+pub half : (m n k : ℕ) {b h : NonZeroPow2Usize} {r : Option NonZeroPow2Usize} → m < b.value → r ≡ half_bound b → r ≡ Some h → n ≡ h.value → k ≡ block_share m n → Half b h m n k
+half m n k {b} {h} l q j e x =
     let u = halved 0 [] [] 0 0 in
-    record { fair = u.fair; less = u.less; most = u.most; others = u.others; same = λ d s val p v. rw e (halved d s val p v).same }
+    record { less = u.less; most = u.most; others = u.others; same = λ d s val p v. rw e (halved d s val p v).same }
   where
     halved : (d : ℕ) (s val : List ℕ) (p v : ℕ) → Halved d s val b h m k p v
-    halved d s val p v = list_halved d s val m k p v f (sym j ∙ q) l (x ∙ ap (block_share m) e)
+    halved d s val p v = list_halved d s val m k p v (sym j ∙ q) l (x ∙ ap (block_share m) e)
 
 module _ {b h : NonZeroPow2Usize} {m n k : ℕ} (u : Half b h m n k) (d : ℕ) (s val : List ℕ) (p v : ℕ) where
   pub half_first : {buf : List ℕ} {bit : ℕ} → Fitted (listed d s val b m p v) buf bit → Fitted (block d s val n k p v) buf bit
@@ -247,9 +245,9 @@ module _ {b h : NonZeroPow2Usize} {m n k : ℕ} (u : Half b h m n k) (d : ℕ) (
   pub half_done : {buf mid new : List ℕ} {bit next end next' end' : ℕ} → Framed (block d s val n k p v) buf bit mid next end → Framed (listed d s val h (m - k) p next) mid end new next' end' → Framed (listed d s val b m p v) buf bit new next' end'
   half_done w z = framed_as (u.same d s val p v) (framed_then (block d s val n k p v) (listed d s val h (m - k) p) w z)
 
-module _ (m : ℕ) {b : NonZeroPow2Usize} {r : Option NonZeroPow2Usize} (f : FairBound b) (l : m < b.0) (q : r ≡ half_bound b.0) (j : r ≡ None) where
+module _ (m : ℕ) (b : NonZeroPow2Usize) {r : Option NonZeroPow2Usize} (l : m < b.value) (q : r ≡ half_bound b) (j : r ≡ None) where
   pub one_share : (m ≡ 0) ⊎ (m ≡ 1)
-  one_share = share_one m f (sym j ∙ q) l
+  one_share = share_one m b (sym j ∙ q) l
 
   pub one_block : (d : ℕ) (s val : List ℕ) (p v : ℕ) → listed d s val b m p v ≡ block d s val 1 m p v
-  one_block d s val p v = list_block d s val m p v f (sym j ∙ q)
+  one_block d s val p v = list_block d s val m p v b (sym j ∙ q)

@@ -10,7 +10,7 @@ use Rattle.model.specs.Frames.{Place, after, width, bits}
 use Rattle.structural.specs.Forms as structural
 use Rattle.structural.specs.Writing as bytes
 use Rattle.bits.specs.Bits.{Inside, Wrote}
-use Rattle.told.specs.declared.Parts.{Parts}
+use Rattle.types.specs.declared.forms.Parts.{Parts}
 use Rattle.told.specs.Forms.{Told}
 use Rattle.told.specs.Forms as told
 use Rattle.told.specs.Laws.Lists.{block_told}

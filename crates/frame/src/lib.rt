@@ -5,7 +5,6 @@
 ghost use Rattle.std.specs.Prelude.{◌≡◌, false, ◌⊎◌, ◌+◌, ◌/◌, ◌^◌, ◌≤◌, ◌<◌, length};
 ghost use Rattle.model.specs.Balanced.{btree};
 ghost use Rattle.model.specs.Frames as frames;
-ghost use Rattle.types.specs.Heads.{FairBound};
 ghost use Rattle.types.specs.Steps.{Given};
 ghost use Rattle.structural.specs.Forms.{most_parts, Stands};
 ghost use Rattle.structural.specs.Forms as structural;
@@ -19,14 +18,9 @@ ghost use Rattle.types.specs.Entries.{ends, widths};
 use array::btree_split_index;
 use bits::{copy_bits, set_bit, write_zeros};
 use num::NonZeroPow2Usize;
-use told::{Form, Parts, after_part, form_of, hop, share};
-use types::Table;
-
-// The bytes of a record of a value file.
-const RECORD: usize = 36;
-
-// The levels of a type.
-const LEVELS: usize = 32;
+use told::{Form, after_part, form_of, hop, share};
+use types::{LEVELS, Parts, Table};
+use value::RECORD;
 
 // How far the writing has come: the record of the next value, and the bit at which its frame starts.
 #[derive(Clone, Copy)]
@@ -77,6 +71,7 @@ fn write_tags(buf: &mut [u8], bit: usize, n: usize, i: usize) -> usize
 // Each writer takes a record of the type and the levels from there on, and goes on from where the writing has come to where it comes.
 impl Source<'_> {
     // Writes the frame of a value of what stands at record `at` of the type.
+    // From the other walks over a type this one differs in what it does with a bit, a row, a sum and a block: it writes them, bit after bit, from the value file.
     #[cycle(writers)]
     fn record(&self, at: usize, level: usize, from: Cursor, buf: &mut [u8]) -> Cursor
         requires stands { Stands level self.now.table.ty.now (ends self.now.table.entries.now) at }
@@ -217,7 +212,7 @@ impl Source<'_> {
         from: Cursor,
         buf: &mut [u8],
     ) -> Cursor
-        requires fair_bound { FairBound bound × (m < bound.0) }
+        requires few { m < bound.value }
         requires stands { Stands level self.now.table.ty.now (ends self.now.table.entries.now) at }
         requires fitted { Fitted (listed level self.now.table.ty.now self.now.val.now bound m at from.next) buf.old from.bit }
         ensures { Framed (listed level self.now.table.ty.now self.now.val.now bound m at from.next) buf.old from.bit buf.new result.next result.bit }
@@ -261,7 +256,7 @@ pub fn write_frame(table: &Table<'_>, val: &[u8], out: &mut [u8]) -> usize
     ensures { Filed (structural.standing 32 table.now.ty.now 0) (told.standing 32 table.now.ty.now val.now 0 0) out.old out.new result }
 {
     let width = table.width(0);
-    let len = (width + 7) / 8;
+    let len = width.div_ceil(8);
     write_record(table, 0, LEVELS, val, 0, out, 0);
     write_zeros(out, width, len * 8 - width);
     len

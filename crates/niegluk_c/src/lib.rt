@@ -1,20 +1,30 @@
 // The entries of `niegluk` as C functions, with the same promises: the number is the result, and the other numbers of the reply go behind the last pointers, one each.
+// A length stands beside its buffer, since that is how C takes it.
 #![tactic(auto)]
 
+ghost use Rattle.std.specs.Prelude.{◌≡◌};
 ghost use Rattle.model.specs.Edits.{Edited};
 ghost use Rattle.model.specs.Frames.{after};
 ghost use Rattle.model.specs.Calls.{Lower, Room, WriteShape, ShapeRecords, Reconstruct, CleanShape, WriteFrame, ReadFrame, PartRead, PartEdit, SearchTold};
+ghost use Rattle.reply.specs.Numbers.{number_of, length_of};
 
-use reply::number;
+use reply::{Refusal, number};
+
+// The number of an answer; its length goes behind the pointer, and 0 where there is none.
+fn tell(answer: Result<usize, Refusal>, length: &mut usize) -> u32
+    ensures number { result ≡ number_of answer }
+    ensures length { length.new ≡ length_of answer }
+{
+    *length = answer.unwrap_or(0);
+    number(answer)
+}
 
 // `lower` for C: the number, 0 where the type is lowered; `length` is 0 where it is not.
 #[unsafe(no_mangle)]
 pub extern "C" fn niegluk_lower(ty: &[u8], out: &mut [u8], length: &mut usize) -> u32
     ensures { Lower ty.now out.old result length.new out.new }
 {
-    let lowered = niegluk::lower(ty, out);
-    *length = lowered.unwrap_or(0);
-    number(lowered)
+    tell(niegluk::lower(ty, out), length)
 }
 
 // `room` for C: the number, 0 where the type is accepted; the three others are 0 where it is not.
@@ -45,9 +55,7 @@ pub extern "C" fn niegluk_write_shape(
 ) -> u32
     ensures { WriteShape ty.now value.now out.old result length.new out.new }
 {
-    let shaped = niegluk::write_shape(ty, value, out);
-    *length = shaped.unwrap_or(0);
-    number(shaped)
+    tell(niegluk::write_shape(ty, value, out), length)
 }
 
 // `shape_records` for C: the number, 0 where the value is accepted; `records` is 0 where it is not.
@@ -55,9 +63,7 @@ pub extern "C" fn niegluk_write_shape(
 pub extern "C" fn niegluk_shape_records(ty: &[u8], value: &[u8], records: &mut usize) -> u32
     ensures { ShapeRecords ty.now value.now result records.new }
 {
-    let told = niegluk::shape_records(ty, value);
-    *records = told.unwrap_or(0);
-    number(told)
+    tell(niegluk::shape_records(ty, value), records)
 }
 
 // `reconstruct` for C: the number, 0 where the value file is written; `length` is 0 where it is not.
@@ -70,9 +76,7 @@ pub extern "C" fn niegluk_reconstruct(
 ) -> u32
     ensures { Reconstruct ty.now shape.now out.old result length.new out.new }
 {
-    let restored = niegluk::reconstruct(ty, shape, out);
-    *length = restored.unwrap_or(0);
-    number(restored)
+    tell(niegluk::reconstruct(ty, shape, out), length)
 }
 
 // `clean_shape` for C: the number, 0 where the cleaned shape is written; `length` is 0 where it is not.
@@ -85,9 +89,7 @@ pub extern "C" fn niegluk_clean_shape(
 ) -> u32
     ensures { CleanShape ty.now shape.now out.old result length.new out.new }
 {
-    let cleaned = niegluk::clean_shape(ty, shape, out);
-    *length = cleaned.unwrap_or(0);
-    number(cleaned)
+    tell(niegluk::clean_shape(ty, shape, out), length)
 }
 
 // `write_frame` for C: the number, 0 where the frame is written; `length` is 0 where it is not.
@@ -100,9 +102,7 @@ pub extern "C" fn niegluk_write_frame(
 ) -> u32
     ensures { WriteFrame ty.now value.now out.old result length.new out.new }
 {
-    let framed = niegluk::write_frame(ty, value, out);
-    *length = framed.unwrap_or(0);
-    number(framed)
+    tell(niegluk::write_frame(ty, value, out), length)
 }
 
 // `read_frame` for C: the number, 0 where the value file is written; `length` is 0 where it is not.
@@ -115,9 +115,7 @@ pub extern "C" fn niegluk_read_frame(
 ) -> u32
     ensures { ReadFrame ty.now frame.now out.old result length.new out.new }
 {
-    let unframed = niegluk::read_frame(ty, frame, out);
-    *length = unframed.unwrap_or(0);
-    number(unframed)
+    tell(niegluk::read_frame(ty, frame, out), length)
 }
 
 // `part_read` for C: the number, 0 where the part's value file is written; `length` is 0 where it is not.
@@ -131,9 +129,7 @@ pub extern "C" fn niegluk_part_read(
 ) -> u32
     ensures { PartRead ty.now frame.now path.now out.old result length.new out.new }
 {
-    let read = niegluk::part_read(ty, frame, path, out);
-    *length = read.unwrap_or(0);
-    number(read)
+    tell(niegluk::part_read(ty, frame, path, out), length)
 }
 
 // `part_edit` for C: the number, 0 where the part is replaced; `length` is the frame's then, and 0 where it is not.
@@ -148,9 +144,7 @@ pub extern "C" fn niegluk_part_edit(
     ensures part_edit { PartEdit ty.now frame.old path.now value.now result length.new frame.new }
     ensures edited { Edited after ty.now frame.old path.now value.now result length.new frame.new }
 {
-    let edited = niegluk::part_edit(ty, frame, path, value);
-    *length = edited.unwrap_or(0);
-    number(edited)
+    tell(niegluk::part_edit(ty, frame, path, value), length)
 }
 
 // `search` for C: the number, 0 where the day file was searched; `found` is 1 where a frame matches, with its index in `index`, and else 0, as `index` is then.

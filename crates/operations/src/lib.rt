@@ -17,14 +17,8 @@ use room::longest_shape;
 use search::search_day;
 use shape_clean::write_cleaned;
 use structural::write_lowered;
-use types::Table;
-use value::check_file;
-
-// The levels that a type may have.
-const LEVELS: usize = 32;
-
-// The bytes of a record of a value file.
-const RECORD: usize = 36;
+use types::{LEVELS, Table};
+use value::{RECORD, check_file};
 
 // Writes the lowered type of a type file over the front of `out`, and answers its length; every byte behind it stays, and all of them where it is refused.
 pub fn lower(table: &Table<'_>, out: &mut [u8]) -> Result<usize, Refusal>

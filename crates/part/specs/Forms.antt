@@ -2,7 +2,7 @@
 -- Beside the type file s stand its tables of ends E and of widths W.
 use Rattle.std.specs.Prelude.{◌≡◌, true, false, List, [], ◌∷◌, map, ℕ, zero, suc, ◌+◌, ◌-◌, ◌*◌, ◌^◌, ◌<◌, ltb, eqb, length, drop, get_or, Option as Optional, Some, None, Result, Ok, Err}
 use Rattle.num.specs.declared.NonZeroPow2Usize.{NonZeroPow2Usize}
-use Rattle.num.specs.Powers.{bound, bound_log2}
+use Rattle.num.specs.Powers.{bound_two, bound_log2}
 use Rattle.model.specs.Outcome.{Outcome, done, refused}
 use Rattle.model.specs.Options.{pick}
 use Rattle.model.specs.Bytes.{records, two_at}
@@ -55,7 +55,7 @@ wide_list (suc e) w = 1 + 2 ^ suc e * w + wide_list e w
 
 -- of a list with the bound
 unfoldable pub listed : ℕ → List ℕ → NonZeroPow2Usize → ℕ → List ℕ → ℕ → ℕ → Optional Spot
-listed d W b p fr bit i = element d W (bound_log2 b.0 - 1) p fr bit i
+listed d W b p fr bit i = element d W (bound_log2 b.value - 1) p fr bit i
 
 -- payload part i of the Variant at record p, by what the record says
 unfoldable pub in_variant : Rec → ℕ → List ℕ → List ℕ → ℕ → ℕ → ℕ → Optional Spot
@@ -86,7 +86,7 @@ below Never d s E W p fr bit i = None
 below Boolean d s E W p fr bit i = None
 below (UInt w) d s E W p fr bit i = None
 below Either d s E W p fr bit i = side d E p fr bit i
-below Opt d s E W p fr bit i = listed d W (bound 2) p fr bit i
+below Opt d s E W p fr bit i = listed d W bound_two p fr bit i
 below (Tuple n) d s E W p fr bit i = among d E W n p bit i
 below (Array n) d s E W p fr bit i = copy d W n p bit i
 below (Listed b) d s E W p fr bit i = listed d W b p fr bit i
@@ -148,6 +148,15 @@ fixed_at d s E W p bit i = fixed_below (head_at s p) (d - 1) E W (p + 1) bit i
 unfoldable pub fixed : ℕ → List ℕ → List ℕ → List ℕ → ℕ → ℕ → List ℕ → Optional Spot
 fixed d s E W p bit [] = Some (spot p d bit)
 fixed d s E W p bit (i ∷ picks) = further (fixed_at d s E W p bit i) (λ q e b. fixed e s E W q b picks)
+
+-- in a frame, or in every frame where none is given
+abbrev pub stepped : ℕ → List ℕ → List ℕ → List ℕ → ℕ → Optional (List ℕ) → ℕ → ℕ → Optional Spot
+stepped d s E W p (Some fr) bit i = step_at d s E W p fr bit i
+stepped d s E W p None bit i = fixed_at d s E W p bit i
+
+abbrev pub followed : ℕ → List ℕ → List ℕ → List ℕ → ℕ → Optional (List ℕ) → ℕ → List ℕ → Optional Spot
+followed d s E W p (Some fr) bit picks = follow d s E W p fr bit picks
+followed d s E W p None bit picks = fixed d s E W p bit picks
 
 -- where a path of whole steps leads in every frame
 unfoldable pub fixed_in : List ℕ → List ℕ → List ℕ → List ℕ → Optional Spot

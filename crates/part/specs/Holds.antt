@@ -30,6 +30,11 @@ pub record Held (d : ℕ) (s E : List ℕ) (p bit : ℕ) : Type 0 where
   pub frame : List ℕ
   pub holds : Holds d s E p frame bit
 
+-- some value stands there in the frame, or in some frame where none is given
+abbrev pub HoldsIn : ℕ → List ℕ → List ℕ → ℕ → Optional (List ℕ) → ℕ → Type 0
+HoldsIn d s E p (Some fr) bit = Holds d s E p fr bit
+HoldsIn d s E p None bit = Held d s E p bit
+
 -- WHERE A PART IS: what the model picks, beside the place that was found
 
 -- the part is there; its type stands at record p with d levels, and it begins at bit b, as many bits behind `bit` as are written ahead of it

@@ -1,19 +1,14 @@
 -- What is read at a record of a type file, part by part: a balanced product or sum of parts, or a list.
-use Rattle.std.specs.Prelude.{List, [], ◌∷◌, Bool, true, false, ℕ, zero, suc, ◌-◌, ◌≤◌, ◌<◌, length, Option, Some, None}
+use Rattle.std.specs.Prelude.{List, [], ◌∷◌, Bool, true, false, ℕ, zero, suc, ◌-◌, ◌≤◌, ◌<◌, length, replicate, Option, Some, None}
 use Rattle.num.specs.declared.NonZeroPow2Usize.{NonZeroPow2Usize}
-use Rattle.num.specs.Powers.{bound, bound_log2}
+use Rattle.num.specs.Powers.{bound_log2}
 use Rattle.model.specs.Types.{size}
-use Rattle.types.specs.declared.Head.{Head}
-use Rattle.types.specs.declared.Head.TheVariants.{Missing, Faulty, Never, Boolean, UInt, Either, Opt, Tuple, Array, Listed, Variants}
-use Rattle.types.specs.declared.Head.TheVariants as head
+use Rattle.types.specs.declared.forms.Parts.{Parts}
+use Rattle.types.specs.declared.forms.Parts.TheVariants.{Copies, Types}
 use Rattle.types.specs.Record.{rec_at}
 use Rattle.types.specs.Trees.{tree, treev}
 use Rattle.structural.specs.Forms.{is_variant, Stands}
 use Rattle.told.specs.Forms.{hops, Hops}
-use Rattle.rebuild.specs.declared.Form.{Form}
-use Rattle.rebuild.specs.declared.Form.TheVariants as form
-use Rattle.rebuild.specs.declared.Parts.{Parts}
-use Rattle.rebuild.specs.declared.Parts.TheVariants.{Bits, Copies, Types}
 use Rattle.rebuild.specs.declared.Read.{Read}
 use Rattle.rebuild.specs.Kinds.{Readers, bits, products, choices, blocks, lists, reads, readers}
 
@@ -39,44 +34,21 @@ pub record Few (n k : ℕ) : Type 0 where
   pub records : n ≤ most_records
   pub surplus : k ≤ most_records
 
--- the form of what a record says
-abbrev pub form_of : Head → Form
-form_of Missing = form.Product Types 0
-form_of Faulty = form.Product Types 0
-form_of Never = form.Refused
-form_of Boolean = form.Product Bits 1
-form_of (UInt w) = form.Product Bits w.0
-form_of Either = form.Sum 2
-form_of Opt = form.List (bound 2)
-form_of (Tuple n) = form.Product Types n
-form_of (Array n) = form.Product Copies n
-form_of (Listed b) = form.List b
-form_of (Variants n) = form.Sum n
-form_of (head.Payload n) = form.Payload n
-
 -- PARTS
 
 -- the record after n parts
 abbrev pub skip : Parts → List ℕ → ℕ → ℕ → ℕ
-skip Bits E n p = p
 skip Copies E n p = p
 skip Types E n p = hops E n p
 
 -- and those before it stand in the table
 abbrev pub Hopped : Parts → List ℕ → ℕ → ℕ → Type 0
-Hopped Bits E n p = Unit
 Hopped Copies E n p = Unit
 Hopped Types E n p = Hops E n p
 
--- what is known of a part; nothing has to be of a bit
-abbrev pub GivenPart : Parts → ℕ → List ℕ → List ℕ → ℕ → Type 0
-GivenPart Bits d s E p = Unit
-GivenPart Copies d s E p = Stands d s E p
-GivenPart Types d s E p = Stands d s E p
-
--- and of n parts
+-- what is known of n parts
 pub record GivenParts (k : Parts) (d : ℕ) (s E : List ℕ) (n p : ℕ) : Type 0 where
-  pub each : (i : ℕ) → i < n → GivenPart k d s E (skip k E i p)
+  pub each : (i : ℕ) → i < n → Stands d s E (skip k E i p)
 
 module _ {A : Type 0} (W : Readers A) where
   -- v: a Variant stands here
@@ -88,16 +60,14 @@ module _ {A : Type 0} (W : Readers A) where
   unfoldable pub standing : ℕ → List ℕ → ℕ → A
   standing d s p = reading d (is_variant (rec_at s p)) s p
 
-  -- the part at a record
-  abbrev pub part : Parts → ℕ → List ℕ → ℕ → A
-  part Bits d s p = bits W
-  part Copies d s p = standing d s p
-  part Types d s p = standing d s p
+  -- the balanced product of n bits
+  unfoldable pub bits_of : ℕ → A
+  bits_of n = products W n (replicate n (bits W))
 
   -- n parts
   unfoldable pub row : Parts → ℕ → List ℕ → List ℕ → ℕ → ℕ → List A
   row k d s E zero p = []
-  row k d s E (suc n) p = part k d s p ∷ row k d s E n (skip k E 1 p)
+  row k d s E (suc n) p = standing d s p ∷ row k d s E n (skip k E 1 p)
 
   -- their balanced product
   unfoldable pub balanced : Parts → ℕ → List ℕ → List ℕ → ℕ → ℕ → A
@@ -113,4 +83,4 @@ module _ {A : Type 0} (W : Readers A) where
 
   -- the list with the bound of what stands at p
   unfoldable pub listed : ℕ → List ℕ → NonZeroPow2Usize → ℕ → A
-  listed d s b p = lists W (bound_log2 b.0 - 1) (standing d s p)
+  listed d s b p = lists W (bound_log2 b.value - 1) (standing d s p)

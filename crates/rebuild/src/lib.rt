@@ -4,42 +4,31 @@
 
 ghost use Rattle.std.specs.Prelude.{◌≡◌, false, ◌≤◌, get_or, length};
 ghost use Rattle.model.specs.Numbers.{most_shape_records};
-ghost use Rattle.types.specs.Heads.{FairBound};
 ghost use Rattle.types.specs.Trees.{type_in};
 ghost use Rattle.types.specs.Steps.{Given};
-ghost use Rattle.rebuild.specs.declared.Parts.TheVariants.{Types};
+ghost use Rattle.types.specs.declared.forms.Parts.TheVariants.{Types};
 ghost use Rattle.rebuild.specs.ShapeRows.{ShapeTold};
 ghost use Rattle.rebuild.specs.Places.{units, passes, bit};
 ghost use Rattle.rebuild.specs.Reads.{plus, counts, reader, value_records};
 ghost use Rattle.structural.specs.Forms.{most_parts, Stands};
-ghost use Rattle.rebuild.specs.Forms.{most_records, Few, Limits, count_of, surplus_of, form_of, skip, Hopped, GivenParts, standing, balanced, chosen, block_of, listed};
+ghost use Rattle.rebuild.specs.Forms.{most_records, Few, Limits, count_of, surplus_of, skip, Hopped, GivenParts, standing, balanced, bits_of, chosen, block_of, listed};
 ghost use Rattle.types.specs.Entries.{ends};
 
-use array::{btree_split_index, tree_end};
+use array::{LEFT, PAIR, RIGHT, UNIT, btree_split_index, tree_end};
 use num::NonZeroPow2Usize;
 use reply::Refusal;
 use told::hop;
-use types::{Head, Table};
+use types::{Form, LEVELS, Parts, Table};
 
-// The records of a shape, and a byte that is none.
-// They are bytes and no enum: each is tested once, as it stands in the file, and behind the last record a byte answers that fails every test.
-pub const UNIT: u8 = 0;
-
-pub const LEFT: u8 = 1;
-
-pub const RIGHT: u8 = 2;
-
-pub const PAIR: u8 = 3;
-
+// The byte that answers behind the last record of a shape.
 const NO_RECORD: u8 = 4;
 
-// The records that a shape may have, and the levels of a type.
+// The records that a shape may have.
 const RECORDS: usize = 65536;
-
-pub const LEVELS: usize = 32;
 
 // What reading gives: the place after the shape that was read, the number of value records and the surplus.
 // The surplus is the shape's records beyond one where an empty tuple, an array of 0 or a variant without parts is read.
+// The walk alone has all three: `structural::Written` is a place and a length, and has no such numbers.
 #[derive(Clone, Copy)]
 struct Read {
     next: usize,
@@ -47,48 +36,9 @@ struct Read {
     surplus: usize,
 }
 
-// What the parts of a balanced product are, and where they stand in the type file.
-#[derive(Clone, Copy)]
-pub enum Parts {
-    // the bits of an integer, all of them told by its one record
-    Bits,
-    // the parts of an array, all of them told by the one type below it
-    Copies,
-    // the types of a tuple or a Variant, one after the other
-    Types,
-}
-
-// How a record is read: not at all, as a product of so many parts, as a sum, as a list, or as a Variant's payload, which is no record of the value.
-#[derive(Clone, Copy)]
-pub enum Form {
-    Refused,
-    Product(Parts, usize),
-    Sum(usize),
-    List(NonZeroPow2Usize),
-    Payload(usize),
-}
-
-// The form of what a record says; the empty tuple where there is no type.
-pub fn form_of(h: Head) -> Form
-    ensures { result ≡ form_of h }
-{
-    match h {
-        Head::Missing | Head::Faulty => Form::Product(Parts::Types, 0),
-        Head::Never => Form::Refused,
-        Head::Boolean => Form::Product(Parts::Bits, 1),
-        Head::UInt(w) => Form::Product(Parts::Bits, w.get()),
-        Head::Either => Form::Sum(2),
-        Head::Opt => Form::List(NonZeroPow2Usize::TWO),
-        Head::Tuple(n) => Form::Product(Parts::Types, n),
-        Head::Array(n) => Form::Product(Parts::Copies, n),
-        Head::Listed(b) => Form::List(b),
-        Head::Variants(n) => Form::Sum(n),
-        Head::Payload(n) => Form::Payload(n),
-    }
-}
-
 // The record at place p of a shape, or no record where the shape has ended.
-pub fn record_at(shape: &[u8], p: usize) -> u8
+// It is a byte and no Option: each test asks for one or two records by name, and one more byte that no test asks for needs no arm of its own.
+fn record_at(shape: &[u8], p: usize) -> u8
     ensures { result ≡ get_or shape.now p 4 }
 {
     shape.get(p).copied().unwrap_or(NO_RECORD)
@@ -144,26 +94,48 @@ fn read_bit(shape: &[u8], p: usize) -> Option<Read>
     }
 }
 
+// Reads the balanced product of n bits at place p.
+fn read_bits(n: usize, shape: &[u8], p: usize) -> Option<Read>
+    requires le_n { (1 ≤ n) × (n ≤ 256) }
+    requires shape_len_bound { length shape.now ≤ most_shape_records }
+    ensures { result ≡ bits_of (reader shape.now) n p }
+{
+    if n == 1 {
+        return read_bit(shape, p);
+    }
+    if record_at(shape, p) != PAIR {
+        return None;
+    }
+    let few = btree_split_index(n);
+    let left = read_bits(few, shape, p + 1)?;
+    let rest = read_bits(n - few, shape, left.next);
+    plus(left.records, left.surplus, rest)
+}
+
 // Reads what stands at record `at`, a type or a Variant's payload, with `level` levels from there on.
+// The shape with its place, and the parts with their number, stay parameters here and below, though `Limits` and `GivenParts` speak of them in each:
+// as a struct they would be made anew for each call, which has another place or number.
 #[cycle(read_block_read_list_read_product_read_record_read_sum)]
+#[tactic(auto, using(crate::proofs::Steps::reading))]
 fn read_record(table: &Table<'_>, at: usize, level: usize, shape: &[u8], p: usize) -> Option<Read>
     requires stands { Stands level table.now.ty.now (ends table.now.entries.now) at }
     requires limits { Limits shape.now level }
     ensures { result ≡ standing (reader shape.now) level table.now.ty.now at p }
 {
-    match form_of(table.head(at)) {
-        Form::Refused => None,
-        Form::Product(parts, n) => {
-            plus(
-                1,
-                0,
-                read_product(table, at + 1, level - 1, n, parts, shape, p),
-            )
+    let first = at + 1;
+    let below = level - 1;
+    let read = match table.head(at).form() {
+        Form::Nothing => None,
+        Form::Bit => read_bit(shape, p),
+        Form::Integer(w) => read_bits(w, shape, p),
+        Form::Product(parts, n) => read_product(table, first, below, n, parts, shape, p),
+        Form::Sum(n) => read_sum(table, first, below, n, shape, p),
+        Form::List(bound) => read_list(table, first, below, bound, shape, p),
+        Form::Payload(n) => {
+            return read_product(table, first, below, n, Parts::Types, shape, p);
         }
-        Form::Sum(n) => plus(1, 0, read_sum(table, at + 1, level - 1, n, shape, p)),
-        Form::List(bound) => plus(1, 0, read_list(table, at + 1, level - 1, bound, shape, p)),
-        Form::Payload(n) => { read_product(table, at + 1, level - 1, n, Parts::Types, shape, p) }
-    }
+    };
+    plus(1, 0, read)
 }
 
 // The record after n parts from record `at` on.
@@ -172,13 +144,14 @@ pub fn after(table: &Table<'_>, at: usize, n: usize, parts: Parts) -> usize
     ensures { result ≡ skip parts (ends table.now.entries.now) n at }
 {
     match parts {
-        Parts::Bits | Parts::Copies => at,
+        Parts::Copies => at,
         Parts::Types => hop(table, at, n),
     }
 }
 
 // Reads the balanced product of the n parts from record `at` on, any tree for none.
 #[cycle(read_block_read_list_read_product_read_record_read_sum)]
+#[tactic(auto, using(crate::proofs::Steps::reading))]
 fn read_product(
     table: &Table<'_>,
     at: usize,
@@ -193,31 +166,28 @@ fn read_product(
     requires limits { Limits shape.now level }
     ensures { result ≡ balanced (reader shape.now) parts level table.now.ty.now (ends table.now.entries.now) n at p }
 {
-    if n == 0 {
-        return read_any(shape, p);
+    match n {
+        0 => read_any(shape, p),
+        1 => read_record(table, at, level, shape, p),
+        _ => {
+            if record_at(shape, p) != PAIR {
+                return None;
+            }
+            let few = btree_split_index(n);
+            let others = n - few;
+            // both sides answer into one local, which keeps the stack's frame small
+            let mut side = read_product(table, at, level, few, parts, shape, p + 1);
+            let left = side?;
+            let rest = after(table, at, few, parts);
+            side = read_product(table, rest, level, others, parts, shape, left.next);
+            plus(left.records, left.surplus, side)
+        }
     }
-    if n == 1 {
-        // here and not in a function of its own, which would be inlined with slices of its own: the stack's frame stays small
-        return match parts {
-            Parts::Bits => read_bit(shape, p),
-            Parts::Copies | Parts::Types => read_record(table, at, level, shape, p),
-        };
-    }
-    if record_at(shape, p) != PAIR {
-        return None;
-    }
-    let few = btree_split_index(n);
-    let others = n - few;
-    // both sides answer into one local, which keeps the stack's frame small
-    let mut side = read_product(table, at, level, few, parts, shape, p + 1);
-    let left = side?;
-    let rest = after(table, at, few, parts);
-    side = read_product(table, rest, level, others, parts, shape, left.next);
-    plus(left.records, left.surplus, side)
 }
 
 // Reads the one of the n records from `at` on that the lefts and rights of a balanced sum lead to.
 #[cycle(read_block_read_list_read_product_read_record_read_sum)]
+#[tactic(auto, using(crate::proofs::Steps::reading))]
 fn read_sum(
     table: &Table<'_>,
     at: usize,
@@ -235,19 +205,19 @@ fn read_sum(
         return read_record(table, at, level, shape, p);
     }
     let few = btree_split_index(n);
-    let side = record_at(shape, p);
-    if side == LEFT {
-        return read_sum(table, at, level, few, shape, p + 1);
+    match record_at(shape, p) {
+        LEFT => read_sum(table, at, level, few, shape, p + 1),
+        RIGHT => {
+            let others = n - few;
+            read_sum(table, hop(table, at, few), level, others, shape, p + 1)
+        }
+        _ => None,
     }
-    if side == RIGHT {
-        let others = n - few;
-        return read_sum(table, hop(table, at, few), level, others, shape, p + 1);
-    }
-    None
 }
 
 // Reads a block of n of the type at record `at`: a left with a unit for none, a right with all of them.
 #[cycle(read_block_read_list_read_product_read_record_read_sum)]
+#[tactic(auto, using(crate::proofs::Steps::reading))]
 fn read_block(
     table: &Table<'_>,
     at: usize,
@@ -261,18 +231,16 @@ fn read_block(
     requires limits { Limits shape.now level }
     ensures { result ≡ block_of (reader shape.now) level table.now.ty.now n at p }
 {
-    let side = record_at(shape, p);
-    if side == LEFT {
-        return read_unit(shape, p + 1);
+    match record_at(shape, p) {
+        LEFT => read_unit(shape, p + 1),
+        RIGHT => read_product(table, at, level, n, Parts::Copies, shape, p + 1),
+        _ => None,
     }
-    if side == RIGHT {
-        return read_product(table, at, level, n, Parts::Copies, shape, p + 1);
-    }
-    None
 }
 
 // Reads a list with the bound: with the bound 2 a block of 1, else a pair of a block of half the bound and a list with that bound.
 #[cycle(read_block_read_list_read_product_read_record_read_sum)]
+#[tactic(auto, using(crate::proofs::Steps::reading))]
 fn read_list(
     table: &Table<'_>,
     at: usize,
@@ -281,7 +249,6 @@ fn read_list(
     shape: &[u8],
     p: usize,
 ) -> Option<Read>
-    requires fair_bound { FairBound bound }
     requires stands { Stands level table.now.ty.now (ends table.now.entries.now) at }
     requires limits { Limits shape.now level }
     ensures { result ≡ listed (reader shape.now) level table.now.ty.now bound at p }
@@ -316,6 +283,7 @@ pub fn check_shape(shape: &[u8]) -> Result<(), Refusal>
 
 // The number of records of the value file that reading the shape gives, 36 bytes each, and the shape's surplus (row 20, if there is any),
 // or that it cannot be read (row 10).
+// A pair has no names for the two, but both callers name them where they take it apart.
 // The type file is an accepted one with its ends; the shape is looked at from its first record on, up to the end of what the type takes.
 pub fn value_records(table: &Table<'_>, shape: &[u8]) -> Option<(usize, usize)>
     requires given { Given 32 false table.now.ty.now (ends table.now.entries.now) 0 }

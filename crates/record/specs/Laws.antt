@@ -1,5 +1,4 @@
 pub mod Heads
-pub mod Arms
 pub mod Maybe
 pub mod Products
 pub mod Sums

@@ -1,5 +1,5 @@
 -- The record of a value, by what its type's record says (01, 'Value file'), and records as bytes.
-use Rattle.std.specs.Prelude.{◌≡◌, List, ℕ, ◌<◌, replicate}
+use Rattle.std.specs.Prelude.{List, ℕ, ◌<◌, replicate}
 use Rattle.model.specs.Options.{flat_map}
 use Rattle.model.specs.ValueFiles.{Rec, rec, value_bytes}
 use Rattle.types.specs.declared.Head.{Head}
@@ -23,7 +23,7 @@ mark_of Missing i = rec 0 0 0 0
 mark_of Faulty i = rec 0 0 0 0
 mark_of Never i = rec 0 0 0 0
 mark_of Boolean i = rec 1 i 0 0
-mark_of (UInt w) i = rec 2 0 w.0 0
+mark_of (UInt w) i = rec 2 0 w.value 0
 mark_of Either i = rec 3 i 0 0
 mark_of Opt i = rec 4 i 0 0
 mark_of (Tuple n) i = rec 5 0 n 0
@@ -46,9 +46,3 @@ Marks (Array n) i = Unit
 Marks (Listed b) i = i < 65536
 Marks (Variants n) i = i < 65536
 Marks (Payload n) i = Unit
-
--- these are its kind, choice and number
-pub record Marked (h : Head) (i kind choice n : ℕ) : Type 0 where
-  pub same : rec kind choice n 0 ≡ mark_of h i
-  pub byte : choice < 256
-  pub two_bytes : n < 65536

@@ -12,8 +12,8 @@ use Rattle.model.specs.ValueFiles.{Rec, encode, encodes}
 use Rattle.types.specs.Record.{rec_at}
 use Rattle.types.specs.Trees.{tree, treev}
 use Rattle.structural.specs.Forms.{is_variant}
-use Rattle.told.specs.declared.Parts.{Parts}
-use Rattle.told.specs.declared.Parts.TheVariants.{Copies}
+use Rattle.types.specs.declared.forms.Parts.{Parts}
+use Rattle.types.specs.declared.forms.Parts.TheVariants.{Copies}
 use Rattle.told.specs.Forms.{after, hops}
 
 -- as a value of the type at record p, with d levels from there on; or, where a Variant stands, of its payload type
@@ -46,7 +46,7 @@ sum d s E n p x = bind_o (as_enum_leaf (btree n) x) (λ y. numbered y.0 (part d 
 
 -- a list with the bound
 unfoldable pub elements : ℕ → List ℕ → NonZeroPow2Usize → ℕ → SValue → Option (ℕ × List Rec)
-elements d s b p x = bind_o (combine (bound_log2 b.0 - 1) x) (λ xs. numbered (length xs) (row Copies d s (length xs) p xs))
+elements d s b p x = bind_o (combine (bound_log2 b.value - 1) x) (λ xs. numbered (length xs) (row Copies d s (length xs) p xs))
 
 -- a block of n of its elements: none or all
 unfoldable pub blocked : ℕ → List ℕ → ℕ → ℕ → SValue → Option (ℕ × List Rec)

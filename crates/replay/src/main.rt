@@ -9,10 +9,8 @@
 // The result of `room` and of `shape_records` are the numbers that they tell, three bytes each.
 #![tactic(auto)]
 
-ghost use Rattle.std.specs.Prelude.{◌+◌, ◌≤◌, ◌<◌, ◌≡◌, IfSome, length};
-ghost use Rattle.replay.specs.Cases.{Stands};
+ghost use Rattle.std.specs.Prelude.{◌+◌, ◌≤◌, ◌<◌, length};
 
-use files::fill;
 use niegluk::{
     clean_shape, lower, part_edit, part_read, read_frame, reconstruct, shape_records, write_frame,
     write_shape,
@@ -85,23 +83,17 @@ impl fmt::Display for Entry {
     }
 }
 
-// Where the five files of a case end in its body; the first starts with it.
+// A case: what its head tells, and its five files.
 #[derive(Clone, Copy)]
-struct Ends {
-    ty: usize,
-    file: usize,
-    path: usize,
-    value: usize,
-    result: usize,
-}
-
-// What the head of a case tells.
-#[derive(Clone, Copy)]
-struct Case {
+struct Case<'a> {
     entry: Entry,
     number: u8,
     room: usize,
-    ends: Ends,
+    ty: &'a [u8],
+    file: &'a [u8],
+    path: &'a [u8],
+    value: &'a [u8],
+    result: &'a [u8],
 }
 
 // How many cases an entry has, and how many of them differ.
@@ -119,19 +111,37 @@ fn number_at(s: &[u8], at: usize) -> usize
     u32::from_be_bytes([0, s[at], s[at + 1], s[at + 2]]) as usize
 }
 
-// Where the files of a case end, as its head tells; none where its body is too long.
-fn ends_of(head: &[u8; HEAD]) -> Option<Ends>
-    ensures { IfSome result (λ ends. Stands ends 70000) }
-{
-    let ty = number_at(head, 5);
-    let file = ty + number_at(head, 8);
-    let path = file + number_at(head, 11);
-    let value = path + number_at(head, 14);
-    let result = value + number_at(head, 17);
-    if BODY < result {
+// How many cases the file tells to have; none where it cannot be read.
+fn read_count<R: Read>(reader: &mut R) -> Option<usize> {
+    let mut n = [0u8; 3];
+    reader.read_exact(&mut n).ok()?;
+    Some(number_at(&n, 0))
+}
+
+// Reads the next case, with its files in `body`. None where it cannot be read: the file ends before it does, its body is too long, or it is of no entry.
+// What follows a body that is too long is misread.
+fn read_case<'a, R: Read>(reader: &mut R, body: &'a mut [u8; BODY]) -> Option<Case<'a>> {
+    let mut head = [0u8; HEAD];
+    reader.read_exact(&mut head).ok()?;
+    let ty = number_at(&head, 5);
+    let file = number_at(&head, 8);
+    let path = number_at(&head, 11);
+    let value = number_at(&head, 14);
+    let result = number_at(&head, 17);
+    let len = ty + file + path + value + result;
+    if BODY < len {
         return None;
     }
-    Some(Ends {
+    let files = &mut body[..len];
+    reader.read_exact(files).ok()?;
+    let (ty, rest) = files.split_at_checked(ty)?;
+    let (file, rest) = rest.split_at_checked(file)?;
+    let (path, rest) = rest.split_at_checked(path)?;
+    let (value, result) = rest.split_at_checked(value)?;
+    Some(Case {
+        entry: Entry::try_from(head[0]).ok()?,
+        number: head[1],
+        room: number_at(&head, 2),
         ty,
         file,
         path,
@@ -140,77 +150,26 @@ fn ends_of(head: &[u8; HEAD]) -> Option<Ends>
     })
 }
 
-// How many cases the file tells to have; none where it cannot be read.
-fn read_count<R: Read>(reader: &mut R) -> usize
-    ensures { result < 16777216 }
-{
-    let mut n = [0u8; 3];
-    if fill(reader, &mut n).unwrap_or(0) < 3 {
-        return 0;
-    }
-    number_at(&n, 0)
-}
-
-// Reads so many bytes to the front of `buf`; are they there?
-fn fills<R: Read>(reader: &mut R, n: usize, buf: &mut [u8]) -> bool
-    requires { n ≤ length buf.old }
-{
-    fill(reader, &mut buf[0..n]).unwrap_or(0) == n
-}
-
-// Reads the next case, and puts its body to the front of `body`. None where it cannot be read: the file ends before it does, its body is too long, or it is of no entry.
-// What follows a body that is too long is misread.
-fn read_case<R: Read>(reader: &mut R, body: &mut [u8; BODY]) -> Option<Case>
-    ensures { IfSome result (λ c. Stands c.ends 70000) }
-{
-    let mut head = [0u8; HEAD];
-    if fill(reader, &mut head).unwrap_or(0) < HEAD {
-        return None;
-    }
-    let ends = ends_of(&head)?;
-    if !fills(reader, ends.result, body) {
-        return None;
-    }
-    let entry = Entry::try_from(head[0]).ok()?;
-    Some(Case {
-        entry,
-        number: head[1],
-        room: number_at(&head, 2),
-        ends,
-    })
-}
-
-// Puts the bytes from one place to another over the front of `out`, where it has room for them.
-fn put(s: &[u8], from: usize, to: usize, out: &mut [u8])
-    requires from_le_to { from ≤ to }
-    requires to_in_bounds { to ≤ length s.now }
-{
-    let len = to - from;
-    if len <= out.len() {
-        out[..len].copy_from_slice(&s[from..to]);
+// Puts the bytes over the front of `out`, where it has room for them.
+fn put(s: &[u8], out: &mut [u8]) {
+    if s.len() <= out.len() {
+        out[..s.len()].copy_from_slice(s);
     }
 }
 
 // What the case's entry answers to its files; of what `room` tells, the first number.
-fn answer(s: &[u8], c: Case, out: &mut [u8]) -> Result<usize, Refusal>
-    requires { Stands c.ends (length s.now) }
-{
-    let ends = c.ends;
-    let ty = &s[..ends.ty];
-    let file = &s[ends.ty..ends.file];
-    let path = &s[ends.file..ends.path];
-    let value = &s[ends.path..ends.value];
+fn answer(c: Case<'_>, out: &mut [u8]) -> Result<usize, Refusal> {
     match c.entry {
-        Entry::Lower => lower(ty, out),
-        Entry::WriteShape => write_shape(ty, file, out),
-        Entry::Reconstruct => reconstruct(ty, file, out),
-        Entry::WriteFrame => write_frame(ty, file, out),
-        Entry::ReadFrame => read_frame(ty, file, out),
-        Entry::PartRead => part_read(ty, file, path, out),
-        Entry::PartEdit => part_edit(ty, out, path, value),
-        Entry::CleanShape => clean_shape(ty, file, out),
-        Entry::Room => niegluk::room(ty).map(|told| told.lowered),
-        Entry::ShapeRecords => shape_records(ty, file),
+        Entry::Lower => lower(c.ty, out),
+        Entry::WriteShape => write_shape(c.ty, c.file, out),
+        Entry::Reconstruct => reconstruct(c.ty, c.file, out),
+        Entry::WriteFrame => write_frame(c.ty, c.file, out),
+        Entry::ReadFrame => read_frame(c.ty, c.file, out),
+        Entry::PartRead => part_read(c.ty, c.file, c.path, out),
+        Entry::PartEdit => part_edit(c.ty, out, c.path, c.value),
+        Entry::CleanShape => clean_shape(c.ty, c.file, out),
+        Entry::Room => niegluk::room(c.ty).map(|told| told.lowered),
+        Entry::ShapeRecords => shape_records(c.ty, c.file),
     }
 }
 
@@ -220,93 +179,79 @@ fn tells(r: Result<usize, Refusal>, n: u8, len: usize) -> bool {
 }
 
 // The lent bytes of an edit are its frame; all others are left as they are.
-fn lend(s: &[u8], c: Case, out: &mut [u8])
-    requires { Stands c.ends (length s.now) }
-{
+fn lend(c: Case<'_>, out: &mut [u8]) {
     if c.entry == Entry::PartEdit {
-        put(s, c.ends.ty, c.ends.file, out);
+        put(c.file, out);
     }
 }
 
 // Does the entry answer the case's number and its result's length, and leave the result, and behind it what was lent?
 // Both buffers are lent alike: the entry writes to the one, the recorded result goes to the other.
-fn agrees(s: &[u8], c: Case, out: &mut [u8], told: &mut [u8]) -> bool
-    requires { Stands c.ends (length s.now) }
-{
-    lend(s, c, out);
-    lend(s, c, told);
-    put(s, c.ends.value, c.ends.result, told);
-    let r = answer(s, c, out);
-    tells(r, c.number, c.ends.result - c.ends.value) && &*out == &*told
-}
-
-// The number of three bytes at a place of a result; 0 where the result ends before it, as that of a refusal does.
-fn told_at(res: &[u8], at: usize) -> usize
-    requires { at ≤ 6 }
-{
-    if res.len() < at + 3 {
-        return 0;
-    }
-    number_at(res, at)
-}
-
-// Are these the three numbers of a result?
-fn is_told(x: TypeRoom, res: &[u8]) -> bool {
-    x.lowered == told_at(res, 0) && x.bits == told_at(res, 3) && x.shape == told_at(res, 6)
-}
-
-// Does `room` answer the case's number and the numbers of its result?
-fn room_agrees(s: &[u8], c: Case) -> bool
-    requires { Stands c.ends (length s.now) }
-{
-    let ends = c.ends;
-    let r = niegluk::room(&s[..ends.ty]);
-    number(r) == u32::from(c.number) && is_told(r.unwrap_or_default(), &s[ends.value..ends.result])
-}
-
-// Does `shape_records` answer the case's number and the number of its result?
-fn records_agree(s: &[u8], c: Case) -> bool
-    requires { Stands c.ends (length s.now) }
-{
-    let r = answer(s, c, &mut []);
-    tells(r, c.number, told_at(&s[c.ends.value..c.ends.result], 0))
-}
-
-// A buffer before it is lent.
-fn filled() -> [u8; ROOM]
-    ensures { 65536 ≡ length result }
-{
-    [0xA5; ROOM]
+fn agrees(c: Case<'_>, out: &mut [u8], told: &mut [u8]) -> bool {
+    lend(c, out);
+    lend(c, told);
+    put(c.result, told);
+    let r = answer(c, out);
+    tells(r, c.number, c.result.len()) && &*out == &*told
 }
 
 // Does an entry that writes agree? Not where more bytes are to be lent than there are.
-fn writer_agrees(body: &[u8; BODY], c: Case) -> bool
-    requires { Stands c.ends 70000 }
-{
-    let room = c.room;
-    if ROOM < room {
+// The buffers are on the stack, as all memory of ours (README, Limits).
+fn writer_agrees(c: Case<'_>) -> bool {
+    if ROOM < c.room {
         return false;
     }
-    let mut out = filled();
-    let mut told = filled();
-    agrees(body, c, &mut out[..room], &mut told[..room])
+    let mut out = [0xA5; ROOM];
+    let mut told = [0xA5; ROOM];
+    agrees(c, &mut out[..c.room], &mut told[..c.room])
+}
+
+// The number of three bytes at a place of a result; none where the result ends before it, as that of a refusal does.
+fn told_at(res: &[u8], at: usize) -> Option<usize>
+    requires { at ≤ 6 }
+{
+    if res.len() < at + 3 {
+        return None;
+    }
+    Some(number_at(res, at))
+}
+
+// The three numbers of a result of `room`.
+fn told_room(res: &[u8]) -> Option<TypeRoom> {
+    Some(TypeRoom {
+        lowered: told_at(res, 0)?,
+        bits: told_at(res, 3)?,
+        shape: told_at(res, 6)?,
+    })
+}
+
+// Does an entry that only tells numbers answer the case's number, and these that the case tells?
+fn teller_agrees<T: PartialEq + Copy + Drop>(
+    answer: Result<T, Refusal>,
+    number: u8,
+    told: Option<T>,
+) -> bool {
+    match answer {
+        Ok(x) => number == 0 && told == Some(x),
+        Err(x) => u32::from(x) == u32::from(number) && told.is_none(),
+    }
 }
 
 // Does the case end as it is recorded?
-fn holds(body: &[u8; BODY], c: Case) -> bool
-    requires { Stands c.ends 70000 }
-{
+fn holds(c: Case<'_>) -> bool {
     match c.entry {
-        Entry::Room => room_agrees(body, c),
-        Entry::ShapeRecords => records_agree(body, c),
-        _ => writer_agrees(body, c),
+        Entry::Room => teller_agrees(niegluk::room(c.ty), c.number, told_room(c.result)),
+        Entry::ShapeRecords => {
+            teller_agrees(shape_records(c.ty, c.file), c.number, told_at(c.result, 0))
+        }
+        _ => writer_agrees(c),
     }
 }
 
 // Counts the cases of an entry, and those that differ; of none, the cases that cannot be read.
 fn count(rt: &impl Files, entry: Option<Entry>) -> io::Result<Tally> {
     let mut file = File::open(rt, "cases")?;
-    let n = read_count(&mut file);
+    let n = read_count(&mut file).unwrap_or_default();
     let mut body = [0u8; BODY];
     let mut cases = 0;
     let mut differ = 0;
@@ -315,7 +260,7 @@ fn count(rt: &impl Files, entry: Option<Entry>) -> io::Result<Tally> {
         if case.map(|c| c.entry) == entry {
             cases += 1;
             if let Some(c) = case
-                && !holds(&body, c)
+                && !holds(c)
             {
                 differ += 1;
             }

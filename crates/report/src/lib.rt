@@ -9,17 +9,17 @@ ghost use Rattle.types.specs.Entries.{ends, widths};
 ghost use Rattle.delivery.specs.Tables.{IsMeasured};
 ghost use Rattle.report.specs.Job.{job_text, Accepted, Printable, Reported};
 
+use files::read_into;
 use frame::write_frame;
 use reply::Refusal;
 use shape::write_shape;
+use std::io;
+use std::rt::Files;
 use structural::write_lowered;
 use table::{RECORDS, tabulate};
 use text::{write_job, write_refused};
-use types::{Entry, Table};
+use types::{Entry, LEVELS, Table};
 use value::check_file;
-
-// The levels that a type may have.
-const LEVELS: usize = 32;
 
 // The most bytes that a file may have.
 const MOST: usize = 65536;
@@ -30,6 +30,7 @@ fn write_accepted(table: &Table<'_>, val: &[u8], out: &mut [u8]) -> usize
     requires in_bounds { 140000 ≤ length out.old }
     ensures { Wrote (job_text table.now.ty.now val.now) out.old out.new result }
 {
+    // Of fixed sizes, and cut where the results end, since the libraries take no memory.
     let mut lowered = [0u8; 65536];
     let mut shape = [0u8; 65536];
     let mut frame = [0u8; 4096];
@@ -56,6 +57,7 @@ fn report_type(ty: &[u8], val: &[u8], out: &mut [u8]) -> usize
     requires { Printable ty.now val.now out.old }
     ensures { Reported ty.now val.now out.old out.new result }
 {
+    // Of a fixed size, since the libraries take no memory.
     let mut entries = [Entry::default(); RECORDS];
     match tabulate(ty, &mut entries) {
         Err(x) => write_refused(x, out),
@@ -80,4 +82,20 @@ pub fn report(ty: &[u8], val: &[u8], out: &mut [u8]) -> usize
         return write_refused(Refusal::NoRoom, out);
     }
     report_type(ty, val, out)
+}
+
+// Reads the type file and the value file of these names, and prints what `job` makes of them.
+// The buffers of the files hold one byte more than a file may have, so that a longer one shows.
+pub fn report_files(
+    rt: &(impl Files + Print),
+    type_name: &str,
+    value_name: &str,
+) -> io::Result<()> {
+    let mut ty = [0u8; 65537];
+    let mut val = [0u8; 65537];
+    let mut out = [0u8; 140000];
+    let ty = read_into(rt, type_name, &mut ty);
+    let val = read_into(rt, value_name, &mut val);
+    let n = report(ty, val, &mut out);
+    rt.write_all(&out[..n])
 }

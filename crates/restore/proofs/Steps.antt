@@ -4,16 +4,17 @@ use mathlib.Core.Path.{◌≡◌, refl, sym, ap, ap₂, subst, ◌∙◌}
 use mathlib.Core.Bool.{Bool, true, false}
 use mathlib.Core.List.{List, [], ◌∷◌, ◌++◌}
 use mathlib.Core.Option.{Option, some, none-ne-some, some-injective}
-use Prim.Native.Nat.{ℕ, zero, suc, ◌+◌, ◌-◌, ◌/◌, ◌^◌, ◌≤◌, ◌<◌}
+use Prim.Native.Nat.{ℕ, zero, suc, ◌+◌, ◌-◌, ◌^◌, ◌≤◌, ◌<◌}
 use native.Mathlib.Omega.{arith}
 use mir.Syntax.{w64}
 use mir.Val.{Fits}
+use Rattle.std.specs.Int.{from_bool}
+use borrow.Author.Tests.{eq-eqb, ne_eqb}
 use lib.Dec.{eqb}
 use lib.ListN.{length, get_or}
 use Rattle.model.proofs.Laws.Balanced.{Shares}
 use Rattle.num.specs.declared.NonZeroPow2Usize.{NonZeroPow2Usize}
 use Rattle.num.specs.Powers.{half_bound}
-use Rattle.num.specs.Laws.{half_one, half_is}
 use Rattle.model.specs.Options.{pick, map_o}
 use Rattle.model.specs.Bytes.{of_bits}
 use Rattle.model.specs.Structural.{SValue}
@@ -23,26 +24,25 @@ use Rattle.model.proofs.Laws.Options.{map_o_some}
 use Rattle.types.specs.declared.Head.{Head}
 use Rattle.types.specs.declared.Head.TheVariants.{Missing, Faulty, Never, Boolean, UInt, Either, Opt, Tuple, Array, Listed, Variants}
 use Rattle.types.specs.declared.Head.TheVariants as head
-use Rattle.types.specs.Heads.{FairBound, bound_range}
 use Rattle.bits.specs.Bits as bits
 use Rattle.bits.specs.Laws.Writing.{wrote_then, wrote_same}
-use Rattle.structural.specs.Forms.{ending, Stands}
+use Rattle.structural.specs.Forms.{ending}
 use Rattle.structural.specs.Writing.{put, Wrote}
 use Rattle.structural.proofs.Laws.Forms.{stands_end, stands_inside}
 use Rattle.structural.proofs.Laws.Writing.{rest, back, wrote_none, wrote_length}
-use Rattle.told.specs.declared.Parts.{Parts}
-use Rattle.told.specs.declared.Parts.TheVariants.{Copies, Types}
+use Rattle.types.specs.declared.forms.Parts.{Parts}
+use Rattle.types.specs.declared.forms.Parts.TheVariants.{Copies, Types}
 use Rattle.told.specs.Forms.{after, skip, GivenParts, hops, Hops}
 use Rattle.told.specs.Laws.Trees.{right_given}
 use Rattle.record.specs.Marks.{mark_of, Marks, bytes, written}
-use Rattle.record.specs.declared.Form.{Form}
-use Rattle.record.specs.declared.Form.TheVariants as form
+use Rattle.types.specs.declared.forms.Form.{Form}
+use Rattle.types.specs.declared.forms.Form.TheVariants as form
 use Rattle.record.specs.Trees.{part, bit_row, product, sum, blocked, elements}
-use Rattle.record.specs.Forms.{form_of}
+use Rattle.types.specs.Forms.{form_of}
 use Rattle.record.specs.Laws.Formed.{NothingRead, BitRead, IntegerRead, PayloadRead}
 use Rattle.record.specs.Laws.Sums.{sum_below, elements_below}
-use Rattle.restore.specs.declared.Numbered.{Numbered}
-use Rattle.restore.specs.Forms.{pairs_before, held, tree_at, made_at, standing, Given, Found, Ends, Ready, ReadyNumbered, Placed, PlacedNumbered, Whole, BitsPlaced, IntegerPlaced}
+use Rattle.structural.specs.declared.Written.{Written}
+use Rattle.restore.specs.Forms.{held, tree_at, made_at, standing, Given, Found, Ends, Ready, ReadyNumbered, Placed, PlacedNumbered, Whole, BitsPlaced, IntegerPlaced}
 use Rattle.restore.specs.Laws.Made.{MadeOf, made_as, made_same, made_of}
 use Rattle.restore.specs.Laws.Splits.{Bit, bit_at, OneBit, bit_row_one, BitSides, bit_row_sides, product_none, none_product, product_one, ProductSides, product_sides}
 use Rattle.restore.specs.Laws.Turns.{Only, sum_one, Leftwards, Rightwards, sum_left, sum_right, sum_inside}
@@ -108,13 +108,9 @@ module _ (sh : List ℕ) (n q : ℕ) (g : Found (made_at sh (bit_row n) q)) wher
 -- PARTS
 
 module _ (k : Parts) (d : ℕ) (s : List ℕ) where
-  pub skip_copy : (n p : ℕ) → n ≡ 1 → k ≡ Copies → p ≡ skip k d s n p
-  unfolding skip after
-  skip_copy n p z e = rw (z, e) refl
-
-  pub skip_type : (E : List ℕ) (n p : ℕ) → n ≡ 1 → k ≡ Types → Stands d s E p → get_or E p 0 ≡ skip k d s n p
-  unfolding skip after
-  skip_type E n p z e g = rw (z, e) (stands_end g)
+  pub skip_one : (n p : ℕ) → n ≡ 1 → after k d s p ≡ skip k d s n p
+  unfolding skip
+  skip_one n p z = rw z refl
 
 -- the table tells where types and Variants stand
 hops_skip : {d : ℕ} {s E : List ℕ} (i n p : ℕ) → i ≤ n → GivenParts Types d s E n p → hops E i p ≡ skip Types d s i p
@@ -133,33 +129,41 @@ module _ {d : ℕ} {s E : List ℕ} {n p few : ℕ} (g : GivenParts Types d s E 
 
 -- PRODUCTS
 
+-- nothing was written, and this is the place after it
+abbrev nothing : ℕ → Written
+nothing next = record { next = next; len = 0 }
+
+-- and more bytes before it
+abbrev longer : Written → ℕ → Written
+longer w k = record { next = w.next; len = w.len + k }
+
 -- the same, of what is the same
 module _ {g b : Given (List Rec)} {out : List ℕ} (e : g ≡ b) where
   pub ready_as : Ready g out → Ready b out
   ready_as r = record { recs = r.recs; end = r.end; there = sym e ∙ r.there; room = r.room }
 
-  pub placed_as : {o : List ℕ} {next len : ℕ} → Placed b out o next len → Placed g out o next len
+  pub placed_as : {o : List ℕ} {w : Written} → Placed b out o w → Placed g out o w
   placed_as v = record { recs = v.recs; there = e ∙ v.there; wrote = v.wrote }
 
 module _ {g b : Given (ℕ × List Rec)} {out : List ℕ} (e : g ≡ b) where
   ready_numbered_as : ReadyNumbered b out → ReadyNumbered g out
   ready_numbered_as r = record { number = r.number; recs = r.recs; end = r.end; there = e ∙ r.there; room = r.room }
 
-  placed_numbered_as : {i : ℕ} {o : List ℕ} {r : Numbered} → PlacedNumbered b i out o r → PlacedNumbered g i out o r
+  placed_numbered_as : {i : ℕ} {o : List ℕ} {n : ℕ} {w : Written} → PlacedNumbered b i out o n w → PlacedNumbered g i out o n w
   placed_numbered_as v = record { number = v.number; recs = v.recs; there = e ∙ v.there; counted = v.counted; wrote = v.wrote }
 
 module _ (k : Parts) (d : ℕ) (s sh : List ℕ) (n p q : ℕ) (out : List ℕ) (g : Ready (made_at sh (product k d s n p) q) out) where
   pub none_found : n ≡ 0 → Found (tree_at sh q)
   none_found z = let o = product_none k d s sh n p q g.recs g.end z g.there in record { what = o.tree; end = g.end; there = o.there }
 
-  pub none_placed : {next : ℕ} → n ≡ 0 → Ends (tree_at sh q) next → Placed (made_at sh (product k d s n p) q) out out next 0
+  pub none_placed : {next : ℕ} → n ≡ 0 → Ends (tree_at sh q) next → Placed (made_at sh (product k d s n p) q) out out (nothing next)
   unfolding written
   none_placed z e = record { recs = []; there = none_product k d s sh n p q e.what _ z e.there; wrote = wrote_none out }
 
   pub one_ready : n ≡ 1 → Ready (standing sh d s p q) out
   one_ready z = ready_as (product_one k d s sh n p q z) g
 
-  pub one_placed : {o : List ℕ} {next len : ℕ} → n ≡ 1 → Placed (standing sh d s p q) out o next len → Placed (made_at sh (product k d s n p) q) out o next len
+  pub one_placed : {o : List ℕ} {w : Written} → n ≡ 1 → Placed (standing sh d s p q) out o w → Placed (made_at sh (product k d s n p) q) out o w
   one_placed z v = placed_as (product_one k d s sh n p q z) v
 
   module _ {few : ℕ} (h : Shares n few) where
@@ -175,43 +179,43 @@ module _ (k : Parts) (d : ℕ) (s sh : List ℕ) (n p q : ℕ) (out : List ℕ) 
     pub left_ready : Ready (made_at sh (product k d s few p) (q + 1)) out
     left_ready = let i = parts_sides in record { recs = i.firsts; end = i.mid; there = i.left_parts; room = first_room i.firsts i.seconds out parts_room }
 
-    module _ {o : List ℕ} {next len : ℕ} (v : Placed (made_at sh (product k d s few p) (q + 1)) out o next len) where
-      left_wrote : Wrote (written parts_sides.firsts) out o len
-      left_wrote = subst (λ rs. Wrote (written rs) out o len) (same_what v.there parts_sides.left_parts) v.wrote
+    module _ {o : List ℕ} {w : Written} (v : Placed (made_at sh (product k d s few p) (q + 1)) out o w) where
+      left_wrote : Wrote (written parts_sides.firsts) out o w.len
+      left_wrote = subst (λ rs. Wrote (written rs) out o w.len) (same_what v.there parts_sides.left_parts) v.wrote
 
-      pub left_fits : len ≤ length o
+      pub left_fits : w.len ≤ length o
       left_fits = first_fits parts_sides.firsts parts_sides.seconds out parts_room left_wrote
 
       module _ {a : ℕ} (e : a ≡ skip k d s few p) where
-        right_is : made_at sh (product k d s (n - few) a) next ≡ some (parts_sides.seconds, g.end)
+        right_is : made_at sh (product k d s (n - few) a) w.next ≡ some (parts_sides.seconds, g.end)
         right_is = ap₂ (λ a q. made_at sh (product k d s (n - few) a) q) e (same_end v.there parts_sides.left_parts) ∙ parts_sides.right_parts
 
-        pub right_ready : Ready (made_at sh (product k d s (n - few) a) next) (rest len o)
+        pub right_ready : Ready (made_at sh (product k d s (n - few) a) w.next) (rest w.len o)
         right_ready = record { recs = parts_sides.seconds; end = g.end; there = right_is; room = second_room parts_sides.firsts parts_sides.seconds out parts_room left_wrote }
 
-        module _ {x : List ℕ} {last r : ℕ} (u : Placed (made_at sh (product k d s (n - few) a) next) (rest len o) x last r) where
-          right_wrote : Wrote (written parts_sides.seconds) (rest len o) x r
-          right_wrote = subst (λ rs. Wrote (written rs) (rest len o) x r) (same_what u.there right_is) u.wrote
+        module _ {x : List ℕ} {z : Written} (u : Placed (made_at sh (product k d s (n - few) a) w.next) (rest w.len o) x z) where
+          right_wrote : Wrote (written parts_sides.seconds) (rest w.len o) x z.len
+          right_wrote = subst (λ rs. Wrote (written rs) (rest w.len o) x z.len) (same_what u.there right_is) u.wrote
 
-          pub sides_placed : Placed (made_at sh (product k d s n p) q) out (back len o x) last (r + len)
+          pub sides_placed : Placed (made_at sh (product k d s n p) q) out (back w.len o x) (longer z w.len)
           sides_placed = record {
             recs = g.recs;
             there = g.there ∙ ap (λ e. some (g.recs, e)) (same_end right_is u.there);
-            wrote = subst (λ rs. Wrote (written rs) out (back len o x) (r + len)) (sym parts_sides.all) (both_done parts_sides.firsts parts_sides.seconds out parts_room left_wrote right_wrote);
+            wrote = subst (λ rs. Wrote (written rs) out (back w.len o x) (z.len + w.len)) (sym parts_sides.all) (both_done parts_sides.firsts parts_sides.seconds out parts_room left_wrote right_wrote);
           }
 
-          pub sides_small : r + len ≤ length out
+          pub sides_small : z.len + w.len ≤ length out
           sides_small = both_small parts_sides.firsts parts_sides.seconds out parts_room left_wrote right_wrote
 
 -- of which the length alone is told
-pub placed_whole : {g : Given (List Rec)} {out o : List ℕ} {next len : ℕ} → Placed g out o next len → Whole g out o len
-placed_whole {next = next} v = record { recs = v.recs; end = next; there = v.there; wrote = v.wrote }
+pub placed_whole : {g : Given (List Rec)} {out o : List ℕ} {w : Written} → Placed g out o w → Whole g out o w.len
+placed_whole {w = w} v = record { recs = v.recs; end = w.next; there = v.there; wrote = v.wrote }
 
 -- the buffer is as long as it was
-pub placed_length : {g : Given (List Rec)} {out o : List ℕ} {next len : ℕ} → Ready g out → Placed g out o next len → length o ≡ length out
+pub placed_length : {g : Given (List Rec)} {out o : List ℕ} {w : Written} → Ready g out → Placed g out o w → length o ≡ length out
 placed_length {out = out} r v = wrote_length v.wrote (subst (λ rs. length (written rs) ≤ length out) (same_what r.there v.there) r.room)
 
-pub numbered_length : {g : Given (ℕ × List Rec)} {i : ℕ} {out o : List ℕ} {r : Numbered} → ReadyNumbered g out → PlacedNumbered g i out o r → length o ≡ length out
+pub numbered_length : {g : Given (ℕ × List Rec)} {i : ℕ} {out o : List ℕ} {n : ℕ} {w : Written} → ReadyNumbered g out → PlacedNumbered g i out o n w → length o ≡ length out
 numbered_length {out = out} r v = wrote_length v.wrote (subst (λ y. length (written y.1) ≤ length out) (same_what r.there v.there) r.room)
 
 -- SUMS
@@ -223,8 +227,8 @@ module _ (d : ℕ) (s E sh : List ℕ) (n p q : ℕ) (out : List ℕ) (g : Ready
   pub only_ready : n ≡ 1 → Ready (standing sh d s p q) out
   only_ready z = record { recs = g.recs; end = g.end; there = (only z).there; room = g.room }
 
-  pub only_placed : (i : ℕ) {o : List ℕ} {next len : ℕ} → n ≡ 1 → Placed (standing sh d s p q) out o next len → PlacedNumbered (made_at sh (sum d s E n p) q) i out o (record { number = i; next = next; len = len })
-  only_placed i {o} {next} {len} z v =
+  pub only_placed : (i : ℕ) {o : List ℕ} {w : Written} → n ≡ 1 → Placed (standing sh d s p q) out o w → PlacedNumbered (made_at sh (sum d s E n p) q) i out o i w
+  only_placed i {o} {w} z v =
       let y = only z in
       let f = y.first in
       record {
@@ -232,7 +236,7 @@ module _ (d : ℕ) (s E sh : List ℕ) (n p q : ℕ) (out : List ℕ) (g : Ready
         recs = g.recs;
         there = g.there ∙ ap (λ e. some ((g.number, g.recs), e)) (same_end y.there v.there);
         counted = omega arith;
-        wrote = subst (λ rs. Wrote (written rs) out o len) (same_what v.there y.there) v.wrote;
+        wrote = subst (λ rs. Wrote (written rs) out o w.len) (same_what v.there y.there) v.wrote;
       }
 
   module _ {few : ℕ} (h : Shares n few) where
@@ -252,7 +256,7 @@ module _ (d : ℕ) (s E sh : List ℕ) (n p q : ℕ) (out : List ℕ) (g : Ready
       pub first_ready : ReadyNumbered (made_at sh (sum d s E few p) (q + 1)) out
       first_ready = record { number = g.number; recs = g.recs; end = g.end; there = to_left.below; room = g.room }
 
-      pub first_placed : {i : ℕ} {o : List ℕ} {r : Numbered} → PlacedNumbered (made_at sh (sum d s E few p) (q + 1)) i out o r → PlacedNumbered (made_at sh (sum d s E n p) q) i out o r
+      pub first_placed : {i : ℕ} {o : List ℕ} {j : ℕ} {w : Written} → PlacedNumbered (made_at sh (sum d s E few p) (q + 1)) i out o j w → PlacedNumbered (made_at sh (sum d s E n p) q) i out o j w
       first_placed v =
           let w = same_what to_left.below v.there in
           record { number = v.number; recs = v.recs; there = g.there ∙ ap₂ (λ y e. some (y, e)) w (same_end to_left.below v.there); counted = v.counted; wrote = v.wrote }
@@ -267,10 +271,10 @@ module _ (d : ℕ) (s E sh : List ℕ) (n p q : ℕ) (out : List ℕ) (g : Ready
       pub others_ready : ReadyNumbered (made_at sh (sum d s E (n - few) a) (q + 1)) out
       others_ready = record { number = to_right.number; recs = g.recs; end = g.end; there = right_below; room = g.room }
 
-      pub others_placed : {i : ℕ} {o : List ℕ} {r : Numbered} → PlacedNumbered (made_at sh (sum d s E (n - few) a) (q + 1)) (i + few) out o r → PlacedNumbered (made_at sh (sum d s E n p) q) i out o r
-      others_placed {i} {o} {r} v =
-          let w = same_what right_below v.there in
-          let f = ap (λ (y : ℕ × List Rec). y.0) w in
+      pub others_placed : {i : ℕ} {o : List ℕ} {j : ℕ} {w : Written} → PlacedNumbered (made_at sh (sum d s E (n - few) a) (q + 1)) (i + few) out o j w → PlacedNumbered (made_at sh (sum d s E n p) q) i out o j w
+      others_placed {i} {o} {j} {w} v =
+          let z = same_what right_below v.there in
+          let f = ap (λ (y : ℕ × List Rec). y.0) z in
           let m = to_right.moved in
           let c = v.counted in
           record {
@@ -278,7 +282,7 @@ module _ (d : ℕ) (s E sh : List ℕ) (n p q : ℕ) (out : List ℕ) (g : Ready
             recs = g.recs;
             there = g.there ∙ ap (λ e. some ((g.number, g.recs), e)) (same_end right_below v.there);
             counted = omega arith;
-            wrote = subst (λ (y : ℕ × List Rec). Wrote (written y.1) out o r.len) (sym w) v.wrote;
+            wrote = subst (λ (y : ℕ × List Rec). Wrote (written y.1) out o w.len) (sym z) v.wrote;
           }
 
 -- BLOCKS
@@ -300,13 +304,13 @@ module _ (d : ℕ) (s sh : List ℕ) (n p q : ℕ) (out : List ℕ) (g : ReadyNu
     held_ready : Ready (made_at sh (product Copies d s m p) (q + 1)) out
     held_ready = record { recs = g.recs; end = g.end; there = held_is; room = g.room }
 
-    held_placed : {o : List ℕ} {next len : ℕ} → Placed (made_at sh (product Copies d s m p) (q + 1)) out o next len → PlacedNumbered (made_at sh (blocked d s n p) q) 0 out o (record { number = m; next = next; len = len })
-    held_placed {o} {next} {len} v = record {
+    held_placed : {o : List ℕ} {w : Written} → Placed (made_at sh (product Copies d s m p) (q + 1)) out o w → PlacedNumbered (made_at sh (blocked d s n p) q) 0 out o m w
+    held_placed {o} {w} v = record {
       number = g.number;
       recs = g.recs;
       there = g.there ∙ ap (λ e. some ((g.number, g.recs), e)) (same_end held_is v.there);
       counted = let a = e ∙ in_held.number in omega arith;
-      wrote = subst (λ rs. Wrote (written rs) out o len) (same_what v.there held_is) v.wrote;
+      wrote = subst (λ rs. Wrote (written rs) out o w.len) (same_what v.there held_is) v.wrote;
     }
 
 -- no block holds more than all its elements
@@ -318,18 +322,25 @@ held_few side n {m} e = go (eqb side 1) e
     go true h = omega arith
     go false h = omega arith
 
+-- none with a left, else all
+held_none : (side n : ℕ) → side ≡ 1 → 0 ≡ held side n
+unfolding held
+held_none side n e = rw (eq-eqb side 1 e) refl
+
+held_all : (side n : ℕ) → (side ≡ 1 → ⊥) → n ≡ held side n
+unfolding held
+held_all side n e = rw (ne_eqb side 1 e) refl
+
 -- LISTS
 
-module _ (d : ℕ) (s sh : List ℕ) (b : NonZeroPow2Usize) (p q : ℕ) (out : List ℕ) (f : FairBound b) (g : ReadyNumbered (made_at sh (elements d s b p) q) out) where
-  module _ {x : Optional NonZeroPow2Usize} (k : x ≡ half_bound b.0) (t : x ≡ None) where
+module _ (d : ℕ) (s sh : List ℕ) (b : NonZeroPow2Usize) (p q : ℕ) (out : List ℕ) (g : ReadyNumbered (made_at sh (elements d s b p) q) out) {x : Optional NonZeroPow2Usize} (k : x ≡ half_bound b) where
+  -- with the bound 2, none or one
+  module _ (t : x ≡ None) where
     as_block : made_at sh (elements d s b p) q ≡ made_at sh (blocked d s 1 p) q
-    as_block = list_two sh d s p q f (sym t ∙ k)
+    as_block = list_two sh d s p q b (sym t ∙ k)
 
     two_ready : ReadyNumbered (made_at sh (blocked d s 1 p) q) out
     two_ready = ready_numbered_as (sym as_block) g
-
-    two_placed : {o : List ℕ} {r : Numbered} → PlacedNumbered (made_at sh (blocked d s 1 p) q) 0 out o r → PlacedNumbered (made_at sh (elements d s b p) q) 0 out o r
-    two_placed v = placed_numbered_as as_block v
 
     pub two_inside : q < length sh
     two_inside = block_starts d s sh 1 p q out two_ready
@@ -337,144 +348,100 @@ module _ (d : ℕ) (s sh : List ℕ) (b : NonZeroPow2Usize) (p q : ℕ) (out : L
     pub two_fits : length sh < 2 ^ 64 → Fits w64 (q + 1)
     two_fits a = block_fits d s sh 1 p q out two_ready a
 
-    -- of which m elements are held, none or one
-    module _ {m : ℕ} (e : m ≡ held (get_or sh q 0) 1) where
-      held_two : Ready (made_at sh (product Copies d s m p) (q + 1)) out
-      held_two = held_ready d s sh 1 p q out two_ready e
+    module _ (e : get_or sh q 0 ≡ 1) where
+      none_ready : Ready (made_at sh (product Copies d s 0 p) (q + 1)) out
+      none_ready = held_ready d s sh 1 p q out two_ready (held_none _ 1 e)
 
-      held_one : (m ≡ 0 → ⊥) → m ≡ 1
-      held_one z = let l = held_few (get_or sh q 0) 1 e in omega arith
+      pub absent_found : Found (tree_at sh (q + 1))
+      absent_found = none_found Copies d s sh 0 p (q + 1) out none_ready refl
 
-      pub absent_found : m ≡ 0 → Found (tree_at sh (q + 1))
-      absent_found z = none_found Copies d s sh m p (q + 1) out held_two z
+      pub absent_placed : {next : ℕ} → Ends (tree_at sh (q + 1)) next → PlacedNumbered (made_at sh (elements d s b p) q) 0 out out 0 (nothing next)
+      absent_placed a = placed_numbered_as as_block (held_placed d s sh 1 p q out two_ready (held_none _ 1 e) (none_placed Copies d s sh 0 p (q + 1) out none_ready refl a))
 
-      pub absent_placed : {next : ℕ} → m ≡ 0 → Ends (tree_at sh (q + 1)) next → PlacedNumbered (made_at sh (elements d s b p) q) 0 out out (record { number = 0; next = next; len = 0 })
-      absent_placed {next} z a = two_placed (subst (λ i. PlacedNumbered (made_at sh (blocked d s 1 p) q) 0 out out (record { number = i; next = next; len = 0 })) z (held_placed d s sh 1 p q out two_ready e (none_placed Copies d s sh m p (q + 1) out held_two z a)))
+    module _ (e : get_or sh q 0 ≡ 1 → ⊥) where
+      pub present_ready : Ready (standing sh d s p (q + 1)) out
+      present_ready = one_ready Copies d s sh 1 p (q + 1) out (held_ready d s sh 1 p q out two_ready (held_all _ 1 e)) refl
 
-      pub present_ready : (m ≡ 0 → ⊥) → Ready (standing sh d s p (q + 1)) out
-      present_ready z = one_ready Copies d s sh m p (q + 1) out held_two (held_one z)
+      pub present_placed : {o : List ℕ} {w : Written} → Placed (standing sh d s p (q + 1)) out o w → PlacedNumbered (made_at sh (elements d s b p) q) 0 out o 1 w
+      present_placed v = placed_numbered_as as_block (held_placed d s sh 1 p q out two_ready (held_all _ 1 e) (one_placed Copies d s sh 1 p (q + 1) out (held_ready d s sh 1 p q out two_ready (held_all _ 1 e)) refl v))
 
-      pub present_placed : {o : List ℕ} {next len : ℕ} → (m ≡ 0 → ⊥) → Placed (standing sh d s p (q + 1)) out o next len → PlacedNumbered (made_at sh (elements d s b p) q) 0 out o (record { number = 1; next = next; len = len })
-      present_placed {o} {next} {len} z v = two_placed (subst (λ i. PlacedNumbered (made_at sh (blocked d s 1 p) q) 0 out o (record { number = i; next = next; len = len })) (held_one z) (held_placed d s sh 1 p q out two_ready e (one_placed Copies d s sh m p (q + 1) out held_two (held_one z) v)))
-
-  module _ {x : Optional NonZeroPow2Usize} (k : x ≡ half_bound b.0) {h : NonZeroPow2Usize} (t : x ≡ Some h) where
+  -- with a larger one, a block of m, half the bound, and a list with that bound
+  module _ {h : NonZeroPow2Usize} (t : x ≡ Some h) where
     pub halves : Halves sh d s b h p q g.number g.recs g.end
-    halves = list_more sh d s p q g.number g.recs g.end f (sym t ∙ k) g.there
+    halves = list_more sh d s p q g.number g.recs g.end (sym t ∙ k) g.there
 
     halves_room : length (written (halves.firsts ++ halves.seconds)) ≤ length out
     halves_room = subst (λ rs. length (written rs) ≤ length out) halves.all g.room
 
-    module _ {n : ℕ} (e : n ≡ h.0) where
-      block_is : made_at sh (blocked d s n p) (q + 1) ≡ some ((halves.first, halves.firsts), halves.mid)
+    pub front_fits : length sh < 2 ^ 64 → Fits w64 (q + 1)
+    front_fits a = let l = halves.inside in omega arith
+
+    module _ {m : ℕ} (e : m ≡ h.value) where
+      block_is : made_at sh (blocked d s m p) (q + 1) ≡ some ((halves.first, halves.firsts), halves.mid)
       block_is = ap (λ n. made_at sh (blocked d s n p) (q + 1)) e ∙ halves.block_there
 
-      block_ready : ReadyNumbered (made_at sh (blocked d s n p) (q + 1)) out
+      block_ready : ReadyNumbered (made_at sh (blocked d s m p) (q + 1)) out
       block_ready = record { number = halves.first; recs = halves.firsts; end = halves.mid; there = block_is; room = first_room halves.firsts halves.seconds out halves_room }
 
-      module _ {o : List ℕ} {l : Numbered} (v : PlacedNumbered (made_at sh (blocked d s n p) (q + 1)) 0 out o l) where
-        block_wrote : Wrote (written halves.firsts) out o l.len
-        block_wrote = subst (λ (y : ℕ × List Rec). Wrote (written y.1) out o l.len) (same_what v.there block_is) v.wrote
+      pub front_inside : q + 1 < length sh
+      front_inside = block_starts d s sh m p (q + 1) out block_ready
 
-        block_ends : l.len ≤ length o
-        block_ends = first_fits halves.firsts halves.seconds out halves_room block_wrote
+      pub elements_fit : length sh < 2 ^ 64 → Fits w64 (q + 1 + 1)
+      elements_fit a = block_fits d s sh m p (q + 1) out block_ready a
 
-        list_is : made_at sh (elements d s h p) l.next ≡ some ((halves.second, halves.seconds), g.end)
-        list_is = ap (made_at sh (elements d s h p)) (same_end v.there block_is) ∙ halves.list_there
+      -- of which n are held
+      module _ {n : ℕ} (c : n ≡ held (get_or sh (q + 1) 0) m) where
+        pub front_few : n < b.value
+        front_few = let a = held_few (get_or sh (q + 1) 0) m c in let j = halves.less in omega arith
 
-        list_ready : ReadyNumbered (made_at sh (elements d s h p) l.next) (rest l.len o)
-        list_ready = record { number = halves.second; recs = halves.seconds; end = g.end; there = list_is; room = second_room halves.firsts halves.seconds out halves_room block_wrote }
+        pub elements_ready : Ready (made_at sh (product Copies d s n p) (q + 1 + 1)) out
+        elements_ready = held_ready d s sh m p (q + 1) out block_ready c
 
-        module _ {y : List ℕ} {r : Numbered} (u : PlacedNumbered (made_at sh (elements d s h p) l.next) 0 (rest l.len o) y r) where
-          list_wrote : Wrote (written halves.seconds) (rest l.len o) y r.len
-          list_wrote = subst (λ (z : ℕ × List Rec). Wrote (written z.1) (rest l.len o) y r.len) (same_what u.there list_is) u.wrote
+        module _ {o : List ℕ} {l : Written} (a : Placed (made_at sh (product Copies d s n p) (q + 1 + 1)) out o l) where
+          block_placed : PlacedNumbered (made_at sh (blocked d s m p) (q + 1)) 0 out o n l
+          block_placed = held_placed d s sh m p (q + 1) out block_ready c a
 
-          all_counted : l.number + r.number ≡ g.number
-          all_counted =
-              let a = v.counted in
-              let c = u.counted in
-              let i = ap (λ (y : ℕ × List Rec). y.0) (same_what v.there block_is) in
-              let j = ap (λ (y : ℕ × List Rec). y.0) (same_what u.there list_is) in
-              let m = halves.number in
-              omega arith
+          block_wrote : Wrote (written halves.firsts) out o l.len
+          block_wrote = subst (λ (y : ℕ × List Rec). Wrote (written y.1) out o l.len) (same_what block_placed.there block_is) block_placed.wrote
 
-          list_placed : PlacedNumbered (made_at sh (elements d s b p) q) 0 out (back l.len o y) (record { number = l.number + r.number; next = r.next; len = r.len + l.len })
-          list_placed =
-              let m = all_counted in
-              record {
-                number = g.number;
-                recs = g.recs;
-                there = g.there ∙ ap (λ e. some ((g.number, g.recs), e)) (same_end list_is u.there);
-                counted = omega arith;
-                wrote = subst (λ rs. Wrote (written rs) out (back l.len o y) (r.len + l.len)) (sym halves.all) (both_done halves.firsts halves.seconds out halves_room block_wrote list_wrote);
-              }
+          pub elements_end : l.len ≤ length o
+          elements_end = first_fits halves.firsts halves.seconds out halves_room block_wrote
 
-          list_small : r.len + l.len ≤ length out
-          list_small = both_small halves.firsts halves.seconds out halves_room block_wrote list_wrote
+          list_is : made_at sh (elements d s h p) l.next ≡ some ((halves.second, halves.seconds), g.end)
+          list_is = ap (made_at sh (elements d s h p)) (same_end block_placed.there block_is) ∙ halves.list_there
 
-          list_few : l.number + r.number < b.0
-          list_few = let m = all_counted in let o = made_of sh (elements d s b p) q ((g.number, g.recs), g.end) g.there in omega (arith, elements_below d s b p o.tree (g.number, g.recs) f o.made)
+          pub rest_ready : ReadyNumbered (made_at sh (elements d s h p) l.next) (rest l.len o)
+          rest_ready = record { number = halves.second; recs = halves.seconds; end = g.end; there = list_is; room = second_room halves.firsts halves.seconds out halves_room block_wrote }
 
-  -- the block at the front, of half the bound and behind so many pairs
-  module _ {i m : ℕ} (e : i ≡ pairs_before (half_bound b.0)) (l : m ≡ b.0 / 2) where
-    front_two : None ≡ half_bound b.0 → made_at sh (blocked d s m p) (q + i) ≡ made_at sh (blocked d s 1 p) q
-    front_two k = let a = e ∙ ap pairs_before (sym k) in ap₂ (λ n x. made_at sh (blocked d s n p) x) (l ∙ half_one b.0 (bound_range b f).0 k) (omega arith)
+          module _ {y : List ℕ} {j : ℕ} {r : Written} (u : PlacedNumbered (made_at sh (elements d s h p) l.next) 0 (rest l.len o) y j r) where
+            list_wrote : Wrote (written halves.seconds) (rest l.len o) y r.len
+            list_wrote = subst (λ (z : ℕ × List Rec). Wrote (written z.1) (rest l.len o) y r.len) (same_what u.there list_is) u.wrote
 
-    front_more : {h : NonZeroPow2Usize} → Some h ≡ half_bound b.0 → made_at sh (blocked d s m p) (q + i) ≡ made_at sh (blocked d s m p) (q + 1)
-    front_more k = let a = e ∙ ap pairs_before (sym k) in ap (made_at sh (blocked d s m p)) (omega arith)
+            all_counted : j + n ≡ g.number
+            all_counted =
+                let v = block_placed.counted in
+                let z = u.counted in
+                let i = ap (λ (y : ℕ × List Rec). y.0) (same_what block_placed.there block_is) in
+                let w = ap (λ (y : ℕ × List Rec). y.0) (same_what u.there list_is) in
+                let m = halves.number in
+                omega arith
 
-    front_ready : ReadyNumbered (made_at sh (blocked d s m p) (q + i)) out
-    front_ready = go (half_bound b.0) refl
-      where
-        go : (x : Optional NonZeroPow2Usize) → x ≡ half_bound b.0 → ReadyNumbered (made_at sh (blocked d s m p) (q + i)) out
-        go None k = ready_numbered_as (front_two k) (two_ready k refl)
-        go (Some h) k = ready_numbered_as (front_more k) (block_ready k refl (l ∙ half_is b.0 k))
+            pub rest_placed : PlacedNumbered (made_at sh (elements d s b p) q) 0 out (back l.len o y) (j + n) (longer r l.len)
+            rest_placed =
+                let m = all_counted in
+                record {
+                  number = g.number;
+                  recs = g.recs;
+                  there = g.there ∙ ap (λ e. some ((g.number, g.recs), e)) (same_end list_is u.there);
+                  counted = omega arith;
+                  wrote = subst (λ rs. Wrote (written rs) out (back l.len o y) (r.len + l.len)) (sym halves.all) (both_done halves.firsts halves.seconds out halves_room block_wrote list_wrote);
+                }
 
-    pub front_inside : q + i < length sh
-    front_inside = block_starts d s sh m p (q + i) out front_ready
+            pub rest_small : r.len + l.len ≤ length out
+            rest_small = both_small halves.firsts halves.seconds out halves_room block_wrote list_wrote
 
-    pub front_fits : length sh < 2 ^ 64 → Fits w64 (q + i)
-    front_fits a = let c = front_inside in omega arith
-
-    pub elements_fit : length sh < 2 ^ 64 → Fits w64 (q + i + 1)
-    elements_fit a = block_fits d s sh m p (q + i) out front_ready a
-
-    -- of which n elements are held, and written
-    module _ {n : ℕ} (c : n ≡ held (get_or sh (q + i) 0) m) where
-      pub front_few : n < b.0
-      front_few = let a = held_few (get_or sh (q + i) 0) m c in let j = (bound_range b f).0 in omega arith
-
-      pub elements_ready : Ready (made_at sh (product Copies d s n p) (q + i + 1)) out
-      elements_ready = held_ready d s sh m p (q + i) out front_ready c
-
-      module _ {o : List ℕ} {next len : ℕ} (v : Placed (made_at sh (product Copies d s n p) (q + i + 1)) out o next len) {x : Optional NonZeroPow2Usize} (k : x ≡ half_bound b.0) where
-        front_placed : PlacedNumbered (made_at sh (blocked d s m p) (q + i)) 0 out o (record { number = n; next = next; len = len })
-        front_placed = held_placed d s sh m p (q + i) out front_ready c v
-
-        pub alone_placed : x ≡ None → PlacedNumbered (made_at sh (elements d s b p) q) 0 out o (record { number = n; next = next; len = len })
-        alone_placed t = two_placed k t (placed_numbered_as (sym (front_two (sym t ∙ k))) front_placed)
-
-        module _ {h : NonZeroPow2Usize} (t : x ≡ Some h) where
-          half_same : m ≡ h.0
-          half_same = l ∙ half_is b.0 (sym t ∙ k)
-
-          block_placed : PlacedNumbered (made_at sh (blocked d s m p) (q + 1)) 0 out o (record { number = n; next = next; len = len })
-          block_placed = placed_numbered_as (sym (front_more (sym t ∙ k))) front_placed
-
-          pub elements_end : len ≤ length o
-          elements_end = block_ends k t half_same block_placed
-
-          pub rest_ready : ReadyNumbered (made_at sh (elements d s h p) next) (rest len o)
-          rest_ready = list_ready k t half_same block_placed
-
-          module _ {y : List ℕ} {r : Numbered} (u : PlacedNumbered (made_at sh (elements d s h p) next) 0 (rest len o) y r) where
-            pub rest_placed : PlacedNumbered (made_at sh (elements d s b p) q) 0 out (back len o y) (record { number = n + r.number; next = r.next; len = r.len + len })
-            rest_placed = list_placed k t half_same block_placed u
-
-            pub rest_small : r.len + len ≤ length out
-            rest_small = list_small k t half_same block_placed u
-
-            pub count_small : n + r.number < b.0
-            count_small = list_few k t half_same block_placed u
+            pub count_small : j + n < b.value
+            count_small = let m = all_counted in let o = made_of sh (elements d s b p) q ((g.number, g.recs), g.end) g.there in omega (arith, elements_below d s b p o.tree (g.number, g.recs) o.made)
 
 -- A RECORD AND WHAT STANDS BELOW IT
 
@@ -499,17 +466,17 @@ module _ {r : Rec} {b g : Given (List Rec)} {out : List ℕ} (u : Under r b g ou
   pub under_ready : Ready b (rest 36 out)
   under_ready = record { recs = u.recs; end = u.end; there = u.below; room = below_room r u.recs out u.room }
 
-  module _ {p : List ℕ} {next len : ℕ} (v : Placed b (rest 36 out) p next len) where
-    under_wrote : Wrote (written u.recs) (rest 36 out) p len
-    under_wrote = subst (λ rs. Wrote (written rs) (rest 36 out) p len) (same_what v.there u.below) v.wrote
+  module _ {p : List ℕ} {w : Written} (v : Placed b (rest 36 out) p w) where
+    under_wrote : Wrote (written u.recs) (rest 36 out) p w.len
+    under_wrote = subst (λ rs. Wrote (written rs) (rest 36 out) p w.len) (same_what v.there u.below) v.wrote
 
     pub under_back : 36 ≤ length (back 36 out p)
     under_back = let l = under_start in omega (arith, below_length r u.recs out u.room under_wrote)
 
-    pub under_small : len + 36 ≤ length out
+    pub under_small : w.len + 36 ≤ length out
     under_small = record_small r u.recs out u.room under_wrote
 
-    pub under_placed : {o : List ℕ} → o ≡ put (bytes r) (back 36 out p) → Placed g out o next (len + 36)
+    pub under_placed : {o : List ℕ} → o ≡ put (bytes r) (back 36 out p) → Placed g out o (longer w 36)
     under_placed {o} e = record { recs = r ∷ u.recs; there = u.all ∙ ap (λ i. some (r ∷ u.recs, i)) (same_end u.below v.there); wrote = record_done r u.recs out u.room under_wrote o e }
 
 -- the number of what has one, left out
@@ -541,20 +508,20 @@ module _ {f : ℕ → Rec} {b : Given (ℕ × List Rec)} {g : Given (List Rec)} 
   pub numbered_ready : ReadyNumbered b (rest 36 out)
   numbered_ready = record { number = u.number; recs = u.recs; end = u.end; there = u.below; room = below_room (f u.number) u.recs out u.room }
 
-  module _ {p : List ℕ} {r : Numbered} (v : PlacedNumbered b 0 (rest 36 out) p r) where
-    as_placed : Placed (plain b) (rest 36 out) p r.next r.len
+  module _ {p : List ℕ} {n : ℕ} {w : Written} (v : PlacedNumbered b 0 (rest 36 out) p n w) where
+    as_placed : Placed (plain b) (rest 36 out) p w
     as_placed = record { recs = v.recs; there = ap plain v.there; wrote = v.wrote }
 
-    numbered_is : r.number ≡ u.number
+    numbered_is : n ≡ u.number
     numbered_is = let c = v.counted in let e = ap (λ (y : ℕ × List Rec). y.0) (same_what v.there u.below) in omega arith
 
     pub numbered_back : 36 ≤ length (back 36 out p)
     numbered_back = under_back as_under as_placed
 
-    pub numbered_small : r.len + 36 ≤ length out
+    pub numbered_small : w.len + 36 ≤ length out
     numbered_small = under_small as_under as_placed
 
-    pub numbered_placed : {o : List ℕ} → o ≡ put (bytes (f r.number)) (back 36 out p) → Placed g out o r.next (r.len + 36)
+    pub numbered_placed : {o : List ℕ} → o ≡ put (bytes (f n)) (back 36 out p) → Placed g out o (longer w 36)
     numbered_placed {o} e = under_placed as_under as_placed (e ∙ ap (λ i. put (bytes (f i)) (back 36 out p)) numbered_is)
 
 -- A BIT'S RECORD AND AN INTEGER'S
@@ -562,18 +529,23 @@ module _ {f : ℕ → Rec} {b : Given (ℕ × List Rec)} {g : Given (List Rec)} 
 no_form : {A : Type 0} → ◌≡◌ {A = ℕ} 0 1 → A
 no_form z = absurd (omega arith)
 
+-- the number of a side: 1 for a right
+abbrev side_number : ℕ → ℕ
+side_number side = from_bool (eqb side 2)
+
 -- the bit at a place, and its record
 record BitThere (sh : List ℕ) (q : ℕ) (rs : List Rec) (e : ℕ) : Type 0 where
   value : Bool
   bit : Bit sh q value e
-  same : rs ≡ rec 1 (get_or sh q 0 - 1) 0 0 ∷ []
+  same : rs ≡ rec 1 (side_number (get_or sh q 0)) 0 0 ∷ []
 
-bit_small : (b : Bool) → bit_number b ≤ 1
+bit_small : (b : Bool) → from_bool b ≤ 1
 bit_small false = omega arith
 bit_small true = omega arith
 
-pub side_fits : (n : ℕ) → n ≤ 2 → Fits w64 n
-side_fits n l = omega arith
+as_number : (b : Bool) → bit_number b ≡ from_bool b
+as_number false = refl
+as_number true = refl
 
 -- the record of a bit, by its form
 bit_mark : (h : Head) (i : ℕ) → form.Bit ≡ form_of h → (mark_of h i ≡ rec 1 i 0 0) × (i < 256 → Marks h i)
@@ -596,7 +568,7 @@ integer_mark Missing w e = no_form cc
 integer_mark Faulty w e = no_form cc
 integer_mark Never w e = no_form cc
 integer_mark Boolean w e = no_form cc
-integer_mark (UInt v) w e = let i : w ≡ v.0 = cc in (ap (λ i. rec 2 0 i 0) (sym i), tt)
+integer_mark (UInt v) w e = let i : w ≡ v.value = cc in (ap (λ i. rec 2 0 i 0) (sym i), tt)
 integer_mark Either w e = no_form cc
 integer_mark Opt w e = no_form cc
 integer_mark (Tuple n) w e = no_form cc
@@ -626,31 +598,24 @@ module _ (d : ℕ) (s sh : List ℕ) (p q : ℕ) (out : List ℕ) (g : Ready (st
         let m = tree_there in
         let (x, f, k) = map_o_some _ (as_bit m.tree) g.recs (sym (b.same m.tree) ∙ m.made) in
         let c = bit_at m.tree m.stood f in
-        let l = c.side in
-        let n : bit_number x ≡ get_or sh q 0 - 1 = omega arith in
+        let n : bit_number x ≡ side_number (get_or sh q 0) = as_number x ∙ ap from_bool (sym (right_bit x c.side)) in
         record { value = x; bit = c; same = sym k ∙ ap (λ i. rec 1 i 0 0 ∷ []) n }
-
-    pub side_some : 1 ≤ get_or sh q 0
-    side_some = let l = bit_there.bit.side in omega arith
-
-    pub side_few : get_or sh q 0 ≤ 2
-    side_few = let l = bit_there.bit.side in omega (arith, bit_small bit_there.value)
 
     pub side_inside : q + 1 < length sh
     side_inside = bit_there.bit.inside
 
-    bit_is : standing sh d s p q ≡ some (rec 1 (get_or sh q 0 - 1) 0 0 ∷ [], q + 2)
+    bit_is : standing sh d s p q ≡ some (rec 1 (side_number (get_or sh q 0)) 0 0 ∷ [], q + 2)
     bit_is = g.there ∙ ap₂ (λ rs e. some (rs, e)) bit_there.same bit_there.bit.end
 
     pub bit_room : 36 ≤ length out
-    bit_room = alone_room (rec 1 (get_or sh q 0 - 1) 0 0) (q + 2) g bit_is
+    bit_room = alone_room (rec 1 (side_number (get_or sh q 0)) 0 0) (q + 2) g bit_is
 
     module _ (h : Head) (r : Form) (e : r ≡ form_of h) (t : r ≡ form.Bit) where
-      pub bit_marks : Marks h (get_or sh q 0 - 1)
-      bit_marks = let l = side_few in (bit_mark h (get_or sh q 0 - 1) (sym t ∙ e)).1 (omega arith)
+      pub bit_marks : Marks h (side_number (get_or sh q 0))
+      bit_marks = let l = bit_small (eqb (get_or sh q 0) 2) in (bit_mark h (side_number (get_or sh q 0)) (sym t ∙ e)).1 (omega arith)
 
-      pub bit_done : {o : List ℕ} → o ≡ put (bytes (mark_of h (get_or sh q 0 - 1))) out → Placed (standing sh d s p q) out o (q + 2) 36
-      bit_done {o} f = record { recs = rec 1 (get_or sh q 0 - 1) 0 0 ∷ []; there = bit_is; wrote = record_alone (rec 1 (get_or sh q 0 - 1) 0 0) out o (f ∙ ap (λ r. put (bytes r) out) (bit_mark h (get_or sh q 0 - 1) (sym t ∙ e)).0) }
+      pub bit_done : {o : List ℕ} → o ≡ put (bytes (mark_of h (side_number (get_or sh q 0)))) out → Placed (standing sh d s p q) out o (record { next = q + 2; len = 36 })
+      bit_done {o} f = record { recs = rec 1 (side_number (get_or sh q 0)) 0 0 ∷ []; there = bit_is; wrote = record_alone (rec 1 (side_number (get_or sh q 0)) 0 0) out o (f ∙ ap (λ r. put (bytes r) out) (bit_mark h (side_number (get_or sh q 0)) (sym t ∙ e)).0) }
 
   module _ {w : ℕ} (b : IntegerRead w d s p) where
     integer_same : standing sh d s p q ≡ map_o (λ y. (rec 2 0 w (of_bits y.0) ∷ [], y.1)) (made_at sh (bit_row w) q)
@@ -670,7 +635,7 @@ module _ (d : ℕ) (s sh : List ℕ) (p q : ℕ) (out : List ℕ) (g : Ready (st
       pub integer_marks : Marks h 0
       integer_marks = (integer_mark h w (sym t ∙ e)).1
 
-      pub integer_done : {o x : List ℕ} {next : ℕ} → o ≡ put (bytes (mark_of h 0)) out → IntegerPlaced (made_at sh (bit_row w) q) x next → Placed (standing sh d s p q) out (returned o x) next 36
+      pub integer_done : {o x : List ℕ} {next : ℕ} → o ≡ put (bytes (mark_of h 0)) out → IntegerPlaced (made_at sh (bit_row w) q) x next → Placed (standing sh d s p q) out (returned o x) (record { next = next; len = 36 })
       integer_done {o} {x} {next} f v = record {
         recs = rec 2 0 w (of_bits v.bools) ∷ [];
         there = integer_is v.bools next v.there;
@@ -678,12 +643,12 @@ module _ (d : ℕ) (s sh : List ℕ) (p q : ℕ) (out : List ℕ) (g : Ready (st
       }
 
 -- the choice that was written is one of them, and the elements are fewer than the bound
-pub choice_below : {m : ℕ → Rec} (sh : List ℕ) (d : ℕ) (s E : List ℕ) (n p q : ℕ) {g : Given (List Rec)} {out x : List ℕ} {r : Numbered} (u : UnderNumbered m (made_at sh (sum d s E n p) q) g out) → 1 ≤ n → PlacedNumbered (made_at sh (sum d s E n p) q) 0 (rest 36 out) x r → r.number < n
+pub choice_below : {m : ℕ → Rec} (sh : List ℕ) (d : ℕ) (s E : List ℕ) (n p q : ℕ) {g : Given (List Rec)} {out x : List ℕ} {i : ℕ} {w : Written} (u : UnderNumbered m (made_at sh (sum d s E n p) q) g out) → 1 ≤ n → PlacedNumbered (made_at sh (sum d s E n p) q) 0 (rest 36 out) x i w → i < n
 choice_below sh d s E n p q u l v =
     let o = made_of sh (sum d s E n p) q ((u.number, u.recs), u.end) u.below in
     omega (arith, numbered_is u v, sum_below d s E n p o.tree (u.number, u.recs) l o.made)
 
-pub count_below : {m : ℕ → Rec} (sh : List ℕ) (d : ℕ) (s : List ℕ) (b : NonZeroPow2Usize) (p q : ℕ) {g : Given (List Rec)} {out x : List ℕ} {r : Numbered} (u : UnderNumbered m (made_at sh (elements d s b p) q) g out) → FairBound b → PlacedNumbered (made_at sh (elements d s b p) q) 0 (rest 36 out) x r → r.number < b.0
-count_below sh d s b p q u f v =
+pub count_below : {m : ℕ → Rec} (sh : List ℕ) (d : ℕ) (s : List ℕ) (b : NonZeroPow2Usize) (p q : ℕ) {g : Given (List Rec)} {out x : List ℕ} {i : ℕ} {w : Written} (u : UnderNumbered m (made_at sh (elements d s b p) q) g out) → PlacedNumbered (made_at sh (elements d s b p) q) 0 (rest 36 out) x i w → i < b.value
+count_below sh d s b p q u v =
     let o = made_of sh (elements d s b p) q ((u.number, u.recs), u.end) u.below in
-    omega (arith, numbered_is u v, elements_below d s b p o.tree (u.number, u.recs) f o.made)
+    omega (arith, numbered_is u v, elements_below d s b p o.tree (u.number, u.recs) o.made)

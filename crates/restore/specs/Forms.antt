@@ -1,6 +1,6 @@
 -- The records of the value that stands at a place of a shape file, as one of the type at a record of a type file, and the place after it.
 -- What is read is what the model's `reconstruct` gives of the tree that stands there.
-use Rattle.std.specs.Prelude.{◌≡◌, Bool, List, ℕ, ◌+◌, ◌≤◌, length, drop, eqb, Option as Optional, Some, None}
+use Rattle.std.specs.Prelude.{◌≡◌, Bool, List, ℕ, ◌+◌, ◌≤◌, length, drop, eqb}
 use Rattle.std.proofs.Math.Option.{Option, some}
 use Rattle.model.specs.Options.{pick, map_o, bind_o}
 use Rattle.model.specs.Bytes.{of_bits, in_bytes}
@@ -8,11 +8,10 @@ use Rattle.model.specs.Structural.{SValue, shape_records}
 use Rattle.model.specs.ShapeFiles.{read_shape}
 use Rattle.model.specs.ValueFiles.{Rec}
 use Rattle.structural.specs.Writing.{Wrote}
+use Rattle.structural.specs.declared.Written.{Written}
 use Rattle.bits.specs.Bits as bits
 use Rattle.record.specs.Marks.{written}
 use Rattle.record.specs.Trees.{part}
-use Rattle.restore.specs.declared.Numbered.{Numbered}
-use Rattle.num.specs.declared.NonZeroPow2Usize.{NonZeroPow2Usize}
 
 -- THE TREES OF A SHAPE FILE
 
@@ -33,11 +32,6 @@ unfoldable pub standing : List ℕ → ℕ → List ℕ → ℕ → ℕ → Give
 standing sh d s p q = made_at sh (part d s p) q
 
 -- LISTS
-
--- the pairs before a list's first block, by the half of its bound: with the bound 2 there is none
-abbrev pub pairs_before : Optional NonZeroPow2Usize → ℕ
-pairs_before None = 0
-pairs_before (Some h) = 1
 
 -- how many elements a block of n holds, by its side: none with a left, else all
 unfoldable pub held : ℕ → ℕ → ℕ
@@ -71,10 +65,10 @@ pub record ReadyNumbered (g : Given (ℕ × List Rec)) (out : List ℕ) : Type 0
   pub room : length (written recs) ≤ length out
 
 -- they were written over the front of the buffer, and the answer has the place after them and their length
-pub record Placed (g : Given (List Rec)) (before after : List ℕ) (next len : ℕ) : Type 0 where
+pub record Placed (g : Given (List Rec)) (before after : List ℕ) (r : Written) : Type 0 where
   pub recs : List Rec
-  pub there : g ≡ some (recs, next)
-  pub wrote : Wrote (written recs) before after len
+  pub there : g ≡ some (recs, r.next)
+  pub wrote : Wrote (written recs) before after r.len
 
 -- of which the length alone is told
 pub record Whole (g : Given (List Rec)) (before after : List ℕ) (len : ℕ) : Type 0 where
@@ -84,11 +78,11 @@ pub record Whole (g : Given (List Rec)) (before after : List ℕ) (len : ℕ) : 
   pub wrote : Wrote (written recs) before after len
 
 -- and the number, from i on
-pub record PlacedNumbered (g : Given (ℕ × List Rec)) (i : ℕ) (before after : List ℕ) (r : Numbered) : Type 0 where
+pub record PlacedNumbered (g : Given (ℕ × List Rec)) (i : ℕ) (before after : List ℕ) (n : ℕ) (r : Written) : Type 0 where
   pub number : ℕ
   pub recs : List Rec
   pub there : g ≡ some ((number, recs), r.next)
-  pub counted : r.number ≡ i + number
+  pub counted : n ≡ i + number
   pub wrote : Wrote (written recs) before after r.len
 
 -- bits stand there, and were put at bit j of an integer's bytes

@@ -1,20 +1,19 @@
 -- The steps of the walk: that each part is small where the whole is, and what its number of records makes of the whole's.
-use Rattle.std.specs.Prelude.{◌≡◌, true, List, ℕ, zero, suc, ◌+◌, ◌-◌, ◌*◌, ◌≤◌, ◌<◌, get_or}
+use Rattle.std.specs.Prelude.{◌≡◌, true, List, ℕ, zero, suc, ◌+◌, ◌-◌, ◌*◌, ◌≤◌, get_or}
 use Rattle.std.proofs.Math.Path.{refl, sym, ap, ap₂}
-use Rattle.std.proofs.Common.{◌∙◌, suc-mul, mul-le-mul_right, arith, Fits}
-use Rattle.std.specs.Int.{w64}
+use Rattle.std.proofs.Common.{◌∙◌, inl, inr, suc-mul, mul-le-mul_right, arith}
 use Rattle.num.specs.declared.NonZeroPow2Usize.{NonZeroPow2Usize}
 use Rattle.num.specs.Powers.{bound_log2}
 use Rattle.model.specs.Balanced.{btree_split_index}
-use Rattle.model.specs.Structural.{SType, 𝟙, ◌⊕◌, partition_type, product_of}
+use Rattle.model.specs.Structural.{SType, partition_type}
 use Rattle.model.specs.Room.{longest_shape}
 use Rattle.model.proofs.Laws.Balanced.{Shares}
 use Rattle.model.proofs.Laws.Sizes.{nodes, nodes_array, nodes_partition_zero, nodes_partition_suc}
 use Rattle.model.proofs.Laws.Room.{longest_nodes, longest_array, longest_list}
-use Rattle.types.specs.Heads.{FairBound, bound_range, log_range}
+use Rattle.types.specs.Heads.{fair_bound_of}
 use Rattle.structural.specs.declared.Parts.{Parts}
 use Rattle.structural.specs.declared.Parts.TheVariants.{Bits, Copies, Types, Choices}
-use Rattle.structural.specs.Forms.{join, all_same, standing, Stands, part, after, skip, balanced, GivenPart, listed}
+use Rattle.structural.specs.Forms.{join, all_same, standing, part, after, skip, balanced, GivenPart, listed}
 use Rattle.structural.proofs.Laws.Bounds.{power_of}
 use Rattle.structural.proofs.Laws.Trees.{skip_same, balanced_none, balanced_one, tree_join, same_parts}
 use Rattle.structural.proofs.Laws.Forms.{stands_end, TreeOf, ListOf}
@@ -35,19 +34,20 @@ element_nodes (suc e) t = omega (arith, nodes_partition_suc e t, element_nodes e
 module _ {b : NonZeroPow2Usize} {d : ℕ} {s E : List ℕ} {p : ℕ} {t : SType} (l : ListOf b d s E p t) where
   pub element_small : Small t → Small (standing d s p)
   unfolding listed
-  element_small h = omega (arith, ap nodes l.same, element_nodes (bound_log2 b.0 - 1) (standing d s p))
+  element_small h = omega (arith, ap nodes l.same, element_nodes (bound_log2 b.value - 1) (standing d s p))
 
   pub element_short : (m : ℕ) → Small t → m ≡ longest_shape (standing d s p) → m ≤ 65536
   element_short m h = short (standing d s p) m (element_small h)
 
-  pub list_counted : (m n : ℕ) → m ≡ longest_shape (standing d s p) → n ≡ (b.0 - 1) * m + (b.0 - 1) + (bound_log2 b.0 - 1) → n ≡ longest_shape t
+  pub list_counted : (m n : ℕ) → m ≡ longest_shape (standing d s p) → n ≡ (b.value - 1) * m + (b.value - 1) + (bound_log2 b.value - 1) → n ≡ longest_shape t
   unfolding listed
   list_counted m n e h =
-      let k = power_of l.fair in
-      let z : bound_log2 b.0 - 1 ≡ l.fair.exponent = omega (arith, k.log2) in
-      h ∙ ap₂ (λ i j. (b.0 - 1) * i + (b.0 - 1) + j) e z
-      ∙ ap (λ i. (i - 1) * longest_shape (standing d s p) + (i - 1) + l.fair.exponent) k.power
-      ∙ sym (ap longest_shape (l.same ∙ ap (λ i. partition_type i (standing d s p)) z) ∙ longest_list l.fair.exponent (standing d s p))
+      let k = power_of b in
+      let f = fair_bound_of b in
+      let z : bound_log2 b.value - 1 ≡ f.exponent = omega (arith, k.log2) in
+      h ∙ ap₂ (λ i j. (b.value - 1) * i + (b.value - 1) + j) e z
+      ∙ ap (λ i. (i - 1) * longest_shape (standing d s p) + (i - 1) + f.exponent) k.power
+      ∙ sym (ap longest_shape (l.same ∙ ap (λ i. partition_type i (standing d s p)) z) ∙ longest_list f.exponent (standing d s p))
 
 -- RECORDS
 
@@ -69,19 +69,15 @@ module _ (k : Parts) (d : ℕ) (s : List ℕ) (p : ℕ) where
   unfolding part after
   copy_counted m e h = rw e (record { next = refl; most = h })
 
-row_counted : (k : Parts) {d : ℕ} {s E : List ℕ} {p : ℕ} → InRow k → Stands d s E p → (m : ℕ) → m ≡ longest_shape (standing d s p) → Counted (part k d s p) (after k d s p) (record { next = get_or E p 0; most = m })
-unfolding part after
-row_counted Bits t g m h = absurd t
-row_counted Copies t g m h = absurd t
-row_counted Types t g m h = record { next = stands_end g; most = h }
-row_counted Choices t g m h = record { next = stands_end g; most = h }
-
-module _ (j k : Parts) (d : ℕ) (s E : List ℕ) (p : ℕ) (e : k ≡ j) where
+module _ (j k : Parts) (d : ℕ) (s : List ℕ) (p : ℕ) (e : k ≡ j) where
   pub part_small : Told j → Small (part k d s p) → Small (standing d s p)
   part_small t h = rw (← told_is j d s p t, ← e) h
 
-  pub part_counted : (m : ℕ) → Told j → InRow j → GivenPart k d s E p → m ≡ longest_shape (standing d s p) → Counted (part k d s p) (after k d s p) (record { next = get_or E p 0; most = m })
-  part_counted m t i g h = rw e (row_counted j i (part_given j k d s E p e t g) m h)
+-- a part that stands in a row
+pub row_counted : (k : Parts) (d : ℕ) (s E : List ℕ) (p q : ℕ) → InRow k → GivenPart k d s E p → q ≡ get_or E p 0 → (m : ℕ) → m ≡ longest_shape (standing d s p) → Counted (part k d s p) (after k d s p) (record { next = q; most = m })
+unfolding part after
+row_counted k d s E p q (inl e) g n m h = let g' = part_given Types k d s E p e tt g in rw e (record { next = n ∙ stands_end g'; most = h })
+row_counted k d s E p q (inr e) g n m h = let g' = part_given Choices k d s E p e tt g in rw e (record { next = n ∙ stands_end g'; most = h })
 
 -- TREES
 
@@ -150,43 +146,6 @@ module _ (k : Parts) (d : ℕ) (s : List ℕ) (n few p q : ℕ) (e : few ≡ btr
     most = i ∙ ap₂ (joined k) x y.most ∙ sym (ap longest_shape here ∙ joined_longest k _ _);
   }
 
--- THE NUMBERS, in the form in which the code's needs ask them
-
--- the arms of a join
-pub both : (k j : Parts) (a b : ℕ) → k ≡ j → suc (a + b) ≡ joined j a b → a + b + 1 ≡ joined k a b
-both k j a b e h = omega (arith, h, ap (λ i. joined i a b) e)
-
-pub longer_right : (k : Parts) (a b : ℕ) → k ≡ Choices → a < b → b + 1 ≡ joined k a b
-longer_right k a b e h = rw e (omega arith)
-
-pub longer_left : (k : Parts) (a b : ℕ) → k ≡ Choices → b ≤ a → a + 1 ≡ joined k a b
-longer_left k a b e h = rw e (omega arith)
-
-product_small : (n m : ℕ) → n ≤ 65536 → m ≤ 65536 → n * m ≤ 65536 * 65536
+-- two small numbers have a product far below 2 ^ 64
+pub product_small : (n m : ℕ) → n ≤ 65536 → m ≤ 65536 → n * m ≤ 65536 * 65536
 product_small n m h k = let x : n * m ≤ 65536 * m = mul-le-mul_right m h in omega arith
-
-pub times_fits : (n m : ℕ) → n ≤ 65536 → m ≤ 65536 → Fits w64 (n * m)
-times_fits n m h k = record { fits = omega (arith, product_small n m h k) }
-
-pub same_fits : (n m : ℕ) → n ≤ 65536 → m ≤ 65536 → Fits w64 (n * m + (n - 1))
-same_fits n m h k = record { fits = omega (arith, product_small n m h k) }
-
-module _ (b : NonZeroPow2Usize) (f : FairBound b) (g : ℕ) (e : g ≡ b.0) where
-  pub bound_some : 1 ≤ g
-  bound_some = let r = bound_range b f in omega arith
-
-  module _ (m : ℕ) (k : m ≤ 65536) where
-    pub elements_fit : Fits w64 ((g - 1) * m)
-    elements_fit = let r = bound_range b f in times_fits (g - 1) m (omega arith) k
-
-    pub blocks_fit : Fits w64 ((g - 1) * m + (g - 1))
-    blocks_fit = let r = bound_range b f in record { fits = omega (arith, product_small (g - 1) m (omega arith) k) }
-
-    pub list_fits : (l : ℕ) → l ≡ bound_log2 b.0 → Fits w64 ((g - 1) * m + (g - 1) + (l - 1))
-    list_fits l i = let r = bound_range b f in let q = log_range b f in record { fits = omega (arith, product_small (g - 1) m (omega arith) k) }
-
-  pub logs_some : (l : ℕ) → l ≡ bound_log2 b.0 → 1 ≤ l
-  logs_some l i = let q = log_range b f in omega arith
-
-  pub list_is : (m l : ℕ) → l ≡ bound_log2 b.0 → (g - 1) * m + (g - 1) + (l - 1) ≡ (b.0 - 1) * m + (b.0 - 1) + (bound_log2 b.0 - 1)
-  list_is m l i = ap₂ (λ x y. (x - 1) * m + (x - 1) + (y - 1)) e i

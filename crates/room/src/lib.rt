@@ -6,7 +6,6 @@ ghost use Rattle.std.specs.Prelude.{◌≡◌, false, ◌+◌, ◌-◌, ◌*◌,
 ghost use Rattle.model.specs.Numbers.{most_shape_records};
 ghost use Rattle.model.specs.Room.{longest_shape};
 ghost use Rattle.num.specs.Powers.{bound_log2};
-ghost use Rattle.types.specs.Heads.{FairBound};
 ghost use Rattle.types.specs.Steps.{Given};
 ghost use Rattle.types.specs.Lows.{low};
 ghost use Rattle.structural.specs.Forms.{most_parts, standing, Stands, part, after, skip, balanced, GivenPart, GivenParts};
@@ -15,10 +14,10 @@ ghost use Rattle.types.specs.Entries.{ends};
 
 use array::btree_split_index;
 use num::NonZeroPow2Usize;
-use structural::{Form, Parts, are_same, form_of};
-use types::Table;
+use structural::{Form, Parts, form_of};
+use types::{LEVELS, Table};
 
-// The record after some parts, and the most records of a shape of what they make.
+// The record after some parts, and the most records of a shape of what they make. It is no `structural::Written`: nothing is written, and `most` is no length.
 #[derive(Clone, Copy)]
 struct Longest {
     next: usize,
@@ -31,14 +30,13 @@ fn longest_joint(parts: Parts, left: usize, right: usize) -> usize
     ensures { result ≡ joined parts left right }
 {
     match parts {
-        Parts::Bits => left + right + 1,
-        Parts::Copies => left + right + 1,
-        Parts::Types => left + right + 1,
-        Parts::Choices => { if left < right { right + 1 } else { left + 1 } }
+        Parts::Bits | Parts::Copies | Parts::Types => left + right + 1,
+        Parts::Choices => left.max(right) + 1,
     }
 }
 
 // The most records of n parts that have `most` each: theirs, and the pairs that join them.
+#[tactic(auto, using(crate::specs::Laws::product_small))]
 fn longest_same(most: usize, n: usize) -> usize
     requires { (1 ≤ n) × (n ≤ most_parts) × (most ≤ most_shape_records) }
     ensures { result ≡ n * most + (n - 1) }
@@ -47,16 +45,17 @@ fn longest_same(most: usize, n: usize) -> usize
 }
 
 // The most records of a list with the bound whose elements have `most` each: as many elements as it can hold, a record for each of them (the pairs of its block and the block's own), and the pairs that join the blocks.
+#[tactic(auto, using(types::specs::Heads::admitted_bound, types::specs::Heads::admitted_log, crate::specs::Laws::product_small))]
 fn longest_list(most: usize, bound: NonZeroPow2Usize) -> usize
-    requires fair_bound { FairBound bound }
-    requires most_le_most_shape_records { most ≤ most_shape_records }
-    ensures { result ≡ (bound.0 - 1) * most + (bound.0 - 1) + (bound_log2 bound.0 - 1) }
+    requires { most ≤ most_shape_records }
+    ensures { result ≡ (bound.value - 1) * most + (bound.value - 1) + (bound_log2 bound.value - 1) }
 {
     let n = bound.get() - 1;
     n * most + n + (bound.log2() - 1)
 }
 
 // The most records of a shape of what stands at record `at`, a type or a Variant's payload, with `level` levels from there on.
+// Why it is no one walk with structural's: see `write_record` there. `Small` is asked of another type at each call, as `Room` is there.
 #[cycle(longest_part_longest_record_longest_tree)]
 fn longest_record(table: &Table<'_>, at: usize, level: usize) -> usize
     requires stands { Stands level table.now.ty.now (ends table.now.entries.now) at }
@@ -85,11 +84,7 @@ fn longest_part(table: &Table<'_>, at: usize, level: usize, parts: Parts) -> Lon
             next: at,
             most: longest_record(table, at, level),
         },
-        Parts::Types => Longest {
-            next: table.end(at),
-            most: longest_record(table, at, level),
-        },
-        Parts::Choices => Longest {
+        Parts::Types | Parts::Choices => Longest {
             next: table.end(at),
             most: longest_record(table, at, level),
         },
@@ -110,7 +105,7 @@ fn longest_tree(table: &Table<'_>, at: usize, level: usize, n: usize, parts: Par
     if n == 1 {
         return longest_part(table, at, level, parts);
     }
-    if are_same(parts) {
+    if parts.are_same() {
         let one = longest_part(table, at, level, parts);
         return Longest {
             next: at,
@@ -132,5 +127,5 @@ pub fn longest_shape(table: &Table<'_>) -> usize
     requires small { Small (low 32 false table.now.ty.now 0) }
     ensures { result ≡ longest_shape (low 32 false table.now.ty.now 0) }
 {
-    longest_record(table, 0, 32)
+    longest_record(table, 0, LEVELS)
 }

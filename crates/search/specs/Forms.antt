@@ -1,6 +1,4 @@
 -- What the search of a day file (02, R-4) knows on its way: the bits that are sought, whether a frame has them, and how a loop over the frames ended.
-use Rattle.std.specs.declared.ops.ControlFlow.{ControlFlow}
-use Rattle.std.specs.declared.ops.ControlFlow.TheVariants.{Break, Continue}
 use Rattle.std.specs.Prelude.{◌≡◌, Bool, true, false, List, ℕ, ◌<◌, Option, Some, None}
 use Rattle.model.specs.Outcome.{done}
 use Rattle.model.specs.Types.{Ty}
@@ -8,12 +6,12 @@ use Rattle.model.specs.Lowering.{lower}
 use Rattle.model.specs.Values.{Value}
 use Rattle.model.specs.ValueFiles.{value_of}
 use Rattle.model.specs.Frames.{after, width, frame}
-use Rattle.model.specs.DayFiles.{frame_at, Matches}
+use Rattle.model.specs.DayFiles.{frame_at}
 use Rattle.day_files.specs.Laws.Days.{NoneBefore}
 use Rattle.types.specs.Trees.{tree}
 use Rattle.bits.specs.Bits.{bits_at}
 use Rattle.edit.specs.Opened.{Opened}
-use Rattle.search.specs.declared.Sought.{Sought}
+use Rattle.search.specs.declared.Asked.{Asked}
 
 -- the bytes of the longest frame
 abbrev pub longest : ℕ
@@ -26,17 +24,12 @@ pub record Says (t : Ty) (val bits : List ℕ) (is : Bool) : Type 0 where
   pub one : is ≡ true → (v : Value t) × (value_of t val ≡ done v) × (bits_at bits 0 (width (lower t)) ≡ frame after t v)
   pub none_said : is ≡ false → (v : Value t) → value_of t val ≡ done v → ⊥
 
--- of which type they are
-abbrev pub Kept : List ℕ → List ℕ → List ℕ → Option Sought → Type 0
+-- they are of the type that was asked for last
+abbrev pub Kept : List ℕ → List ℕ → List ℕ → Option Asked → Type 0
 Kept s val bits None = Unit
 Kept s val bits (Some x) = Says (tree x.level s x.at) val bits x.is_said
 
 -- A FRAME
-
--- it matches, or it does not and the bits are of that type
-abbrev pub Looked : List ℕ → List ℕ → List ℕ → List ℕ → List ℕ → ControlFlow Unit (Option Sought) → Type 0
-Looked s fr path val bits (Break _) = Matches after s fr path val
-Looked s fr path val bits (Continue sought) = (Matches after s fr path val → ⊥) × Kept s val bits sought
 
 -- a frame is accepted, and its w bits from `bit` on are the sought ones
 pub record Standing (s E fr : List ℕ) (bit w : ℕ) (bits : List ℕ) : Type 0 where

@@ -2,9 +2,9 @@
 // No value file is built and no frame is copied: the value's own bits are made once for each type that the part has in turn, and compared with the part's stretch of each frame.
 #![tactic(auto)]
 
-ghost use Rattle.std.specs.Prelude.{◌≡◌, false, ◌+◌, ◌*◌, ◌≤◌, ◌<◌, length, get_or};
+ghost use Rattle.std.specs.Prelude.{false, ◌+◌, ◌*◌, ◌≤◌, ◌<◌, length, get_or};
 ghost use Rattle.model.specs.Calls.{Search};
-ghost use Rattle.model.specs.DayFiles.{frames_in};
+ghost use Rattle.model.specs.DayFiles.{frames_in, Matches};
 ghost use Rattle.model.specs.Frames.{after};
 ghost use Rattle.day_files.specs.Laws.Days.{MatchesAt};
 ghost use Rattle.reply.specs.Numbers.{number_of, found_at};
@@ -14,27 +14,34 @@ ghost use Rattle.bits.specs.Bits.{Inside, Tells};
 ghost use Rattle.told.specs.Widths.{Wide};
 ghost use Rattle.accept.specs.Answers.{Lowered};
 ghost use Rattle.edit.specs.Opened.{Opened};
-ghost use Rattle.search.specs.Forms.{longest, Says, Kept, Looked, Standing, Stood, Ended};
+ghost use Rattle.search.specs.Forms.{longest, Says, Kept, Standing, Stood, Ended};
 ghost use Rattle.types.specs.Entries.{ends, widths};
 
 use accept::accept;
 use bits::same_bits;
-use edit::type_is_bytes;
-use part::{find_part, fixed_part};
+use edit::{reach_part, type_is_bytes};
+use part::fixed_part;
 use reply::Refusal;
-use std::ops::ControlFlow;
 use types::Table;
 use value::check_part;
 
-// The bytes of the longest frame of a type that lowers.
+// The bytes of the longest frame of a type that lowers, and of the buffer for the sought bits: there is no heap here.
 const LONGEST: usize = 4096;
 
-// Of which type the sought bits are, by its record and the levels from there on, and whether the value file says a value of it.
+// The record of a type, the levels from there on, and what `seek` answered of it: whether the value file says a value of that type.
+// The bool is no mark of whether the numbers beside it hold, which they always do: with a variant for each answer the type would stand in both.
 #[derive(Clone, Copy, PartialEq, Eq, Debug)]
-struct Sought {
+struct Asked {
     at: usize,
     level: usize,
     is_said: bool,
+}
+
+// The bits that are sought, and what was asked last, if anything was: they are of that type.
+#[derive(Drop)]
+struct Sought {
+    bits: [u8; LONGEST],
+    last: Option<Asked>,
 }
 
 // Is the frame accepted?
@@ -60,12 +67,10 @@ fn has_bits(table: &Table<'_>, frame: &[u8], bit: usize, bits: &[u8], n: usize) 
 }
 
 // Writes the bits of the value that a value file says as one of the type at record `at`, with `level` levels from there on, over the front of `bits`; whether it says one.
-fn seek(table: &Table<'_>, at: usize, level: usize, value: &[u8], bits: &mut [u8]) -> bool
+fn seek(table: &Table<'_>, at: usize, level: usize, value: &[u8], bits: &mut [u8; LONGEST]) -> bool
     requires given { Given level false table.now.ty.now (ends table.now.entries.now) at }
     requires wide { Wide table.now.ty.now (ends table.now.entries.now) (widths table.now.entries.now) }
-    requires bits_len { length bits.old ≡ longest }
-    ensures says { Says (tree level table.now.ty.now at) value.now bits.new result }
-    ensures bits_len_2 { length bits.new ≡ longest }
+    ensures { Says (tree level table.now.ty.now at) value.now bits.new result }
 {
     match check_part(table, at, level, value) {
         Err(_) => false,
@@ -77,60 +82,38 @@ fn seek(table: &Table<'_>, at: usize, level: usize, value: &[u8], bits: &mut [u8
 }
 
 // The same, unless the bits are those of that type already.
-fn seek_once(
-    table: &Table<'_>,
-    at: usize,
-    level: usize,
-    value: &[u8],
-    sought: Option<Sought>,
-    bits: &mut [u8],
-) -> bool
+fn seek_once(table: &Table<'_>, at: usize, level: usize, value: &[u8], sought: &mut Sought) -> bool
     requires given { Given level false table.now.ty.now (ends table.now.entries.now) at }
     requires wide { Wide table.now.ty.now (ends table.now.entries.now) (widths table.now.entries.now) }
-    requires bits_len { length bits.old ≡ longest }
-    requires kept { Kept table.now.ty.now value.now bits.old sought }
-    ensures says { Says (tree level table.now.ty.now at) value.now bits.new result }
-    ensures bits_len_2 { length bits.new ≡ longest }
+    requires kept { Kept table.now.ty.now value.now sought.old.bits sought.old.last }
+    ensures says { Says (tree level table.now.ty.now at) value.now sought.new.bits result }
+    ensures keeps { Kept table.now.ty.now value.now sought.new.bits sought.new.last }
 {
-    match sought {
-        Some(kept) if kept.at == at && kept.level == level => kept.is_said,
-        _ => seek(table, at, level, value, bits),
+    match sought.last {
+        Some(last) if last.at == at && last.level == level => last.is_said,
+        _ => {
+            let is_said = seek(table, at, level, value, &mut sought.bits);
+            sought.last = Some(Asked { at, level, is_said });
+            is_said
+        }
     }
 }
 
-// Looks for the value in one frame, and ends the search where it matches: it is accepted, the path leads to a part, and the part's stretch has the value's bits. If not, of which type the sought bits are then.
-fn look_at(
-    table: &Table<'_>,
-    frame: &[u8],
-    path: &[u8],
-    value: &[u8],
-    sought: Option<Sought>,
-    bits: &mut [u8],
-) -> ControlFlow<(), Option<Sought>>
+// Does a frame match: is it accepted, leads the path to a part, and has the part's stretch the bits of the value?
+fn matches(table: &Table<'_>, frame: &[u8], path: &[u8], value: &[u8], sought: &mut Sought) -> bool
     requires given { Given 32 false table.now.ty.now (ends table.now.entries.now) 0 }
     requires wide { Wide table.now.ty.now (ends table.now.entries.now) (widths table.now.entries.now) }
     requires lowered { Lowered table.now.ty.now }
-    requires bits_len { length bits.old ≡ longest }
-    requires kept { Kept table.now.ty.now value.now bits.old sought }
-    ensures looked { Looked table.now.ty.now frame.now path.now value.now bits.new result }
-    ensures bits_len_2 { length bits.new ≡ longest }
+    requires kept { Kept table.now.ty.now value.now sought.old.bits sought.old.last }
+    ensures told { Tells result (Matches after table.now.ty.now frame.now path.now value.now) }
+    ensures keeps { Kept table.now.ty.now value.now sought.new.bits sought.new.last }
 {
     type_is_bytes(table.ty);
-    if !is_accepted(table, frame) {
-        return ControlFlow::Continue(sought);
-    }
-    let Ok(spot) = find_part(table, frame, path) else {
-        return ControlFlow::Continue(sought);
+    let Ok(spot) = reach_part(table, frame, path) else {
+        return false;
     };
-    let is_said = seek_once(table, spot.at, spot.level, value, sought, bits);
-    if is_said && same_bits(frame, spot.bit, bits, 0, table.width(spot.at)) {
-        return ControlFlow::Break(());
-    }
-    ControlFlow::Continue(Some(Sought {
-        at: spot.at,
-        level: spot.level,
-        is_said,
-    }))
+    seek_once(table, spot.at, spot.level, value, sought)
+        && same_bits(frame, spot.bit, &sought.bits, 0, table.width(spot.at))
 }
 
 // Searches the frames of a day file, each of `size` bytes, where the path leads by their tags.
@@ -140,53 +123,47 @@ fn search_led(
     size: usize,
     path: &[u8],
     value: &[u8],
-    bits: &mut [u8],
+    sought: &mut Sought,
 ) -> Option<usize>
     requires given { Given 32 false table.now.ty.now (ends table.now.entries.now) 0 }
     requires wide { Wide table.now.ty.now (ends table.now.entries.now) (widths table.now.entries.now) }
     requires lowered { Lowered table.now.ty.now }
-    requires bits_len { length bits.old ≡ longest }
+    requires kept { Kept table.now.ty.now value.now sought.old.bits sought.old.last }
     requires le_size { 1 ≤ size }
     ensures { Ended (MatchesAt after table.now.ty.now day.now path.now value.now size) (frames_in size day.now) result }
 {
-    let mut sought = None;
     for i in 0..day.len() / size {
         let start = i * size;
         let frame = &day[start..start + size];
-        match look_at(table, frame, path, value, sought, bits) {
-            ControlFlow::Break(()) => {
-                return Some(i);
-            }
-            ControlFlow::Continue(kept) => {
-                sought = kept;
-            }
+        if matches(table, frame, path, value, sought) {
+            return Some(i);
         }
     }
     None
 }
 
-// Searches the frames of a day file, each of `size` bytes, where the part stands from `bit` on in all of them, with the type at record `at`.
+// Searches the frames of a day file, each of `size` bytes, where the part stands in n bits from `bit` on in all of them.
+// The same loop as `search_led` over another test: that one changes the sought bits from frame to frame, and this one asks that each frame has the stretch.
 fn search_fixed(
     table: &Table<'_>,
     day: &[u8],
     size: usize,
-    at: usize,
     bit: usize,
-    bits: &[u8],
+    n: usize,
+    bits: &[u8; LONGEST],
 ) -> Option<usize>
     requires given { Given 32 false table.now.ty.now (ends table.now.entries.now) 0 }
     requires wide { Wide table.now.ty.now (ends table.now.entries.now) (widths table.now.entries.now) }
     requires lowered { Lowered table.now.ty.now }
-    requires bits_len { length bits.now ≡ longest }
     requires le_size { (1 ≤ size) × (size ≤ longest) }
-    requires at_in_bounds { (at < length (widths table.now.entries.now)) × (get_or (widths table.now.entries.now) at 0 ≤ 32768) × (bit + get_or (widths table.now.entries.now) at 0 ≤ 8 * size) }
-    ensures { Ended (Stood table.now.ty.now (ends table.now.entries.now) day.now size bit (get_or (widths table.now.entries.now) at 0) bits.now) (frames_in size day.now) result }
+    requires stretch { (n ≤ 32768) × (bit + n ≤ 8 * size) }
+    ensures { Ended (Stood table.now.ty.now (ends table.now.entries.now) day.now size bit n bits.now) (frames_in size day.now) result }
 {
     let count = day.len() / size;
     for i in 0..count {
         let start = i * size;
         let frame = &day[start..start + size];
-        if has_bits(table, frame, bit, bits, table.width(at)) {
+        if has_bits(table, frame, bit, bits, n) {
             return Some(i);
         }
     }
@@ -206,7 +183,7 @@ pub fn search_day(
     ensures { Search table.now.ty.now day.now path.now value.now (number_of result) (found_at result) }
 {
     type_is_bytes(table.ty);
-    let size = (table.width(0) + 7) / 8;
+    let size = table.width(0).div_ceil(8);
     if size == 0 {
         return Err(Refusal::NoBytes);
     }
@@ -216,12 +193,16 @@ pub fn search_day(
     if path.len() % 2 != 0 {
         return Err(Refusal::PathOdd);
     }
-    let mut bits = [0u8; LONGEST];
-    let Some(spot) = fixed_part(table, path) else {
-        return Ok(search_led(table, day, size, path, value, &mut bits));
+    let mut sought = Sought {
+        bits: [0; LONGEST],
+        last: None,
     };
-    if !seek(table, spot.at, spot.level, value, &mut bits) {
+    let Some(spot) = fixed_part(table, path) else {
+        return Ok(search_led(table, day, size, path, value, &mut sought));
+    };
+    if !seek(table, spot.at, spot.level, value, &mut sought.bits) {
         return Ok(None);
     }
-    Ok(search_fixed(table, day, size, spot.at, spot.bit, &bits))
+    let n = table.width(spot.at);
+    Ok(search_fixed(table, day, size, spot.bit, n, &sought.bits))
 }

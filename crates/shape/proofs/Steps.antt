@@ -2,24 +2,27 @@
 use mathlib.Core.Path.{◌≡◌, ap, ◌∙◌}
 use mathlib.Core.List.{List}
 use mathlib.Core.Option.{some}
+use Rattle.std.specs.Prelude.{Some}
 use Prim.Native.Nat.{ℕ, ◌+◌, ◌-◌, ◌/◌, ◌^◌, ◌≤◌, ◌<◌}
 use native.Mathlib.Omega.{arith}
 use mir.Syntax.{w64}
 use mir.Val.{Fits}
 use lib.ListN.{length, set}
 use Rattle.num.specs.declared.NonZeroPow2Usize.{NonZeroPow2Usize}
+use Rattle.num.specs.Powers.{half_bound}
 use Rattle.model.specs.Balanced.{btree_split_index}
 use Rattle.model.specs.Structural.{unit, left, shape_records}
+use Rattle.model.proofs.Laws.Balanced.{shares}
 use Rattle.structural.specs.Forms.{Stands}
 use Rattle.structural.proofs.Laws.Forms.{stands_end}
 use Rattle.structural.proofs.Laws.Writing.{wrote_none, wrote_set}
-use Rattle.told.specs.declared.Parts.{Parts}
-use Rattle.told.specs.declared.Parts.TheVariants.{Copies, Types}
+use Rattle.types.specs.declared.forms.Parts.{Parts}
+use Rattle.types.specs.declared.forms.Parts.TheVariants.{Copies, Types}
 use Rattle.told.specs.Forms.{standing, after, skip, balanced, chosen, after_at, listed}
 use Rattle.told.specs.Laws.Trees.{balanced_none, balanced_one, balanced_step}
-use Rattle.told.specs.Laws.Lists.{chosen_one, chosen_left, chosen_right, block_told, block_none, block_some, Halved}
+use Rattle.told.specs.Laws.Lists.{chosen_one, chosen_left, chosen_right, block_told, block_none, block_some, block_share, listed_more, Halved}
 use Rattle.shape.specs.Forms.{Ready, Placed}
-use Rattle.shape.specs.Laws.Writing.{ready_room, Stem, left_stem, right_stem, Pair, pair_of}
+use Rattle.shape.specs.Laws.Writing.{ready_room, ready_some, Stem, left_stem, right_stem, Pair, pair_of}
 
 -- RECORDS
 
@@ -29,8 +32,12 @@ record_fits val v h l = omega arith
 -- TREES
 
 module _ (k : Parts) (d : ℕ) (s val : List ℕ) (n p v : ℕ) where
-  pub none_is : n ≡ 0 → balanced k d s val n p v ≡ some (unit, v)
+  none_is : n ≡ 0 → balanced k d s val n p v ≡ some (unit, v)
   none_is z = ap (λ i. balanced k d s val i p v) z ∙ balanced_none k d s val p v
+
+  pub none_placed : {out : List ℕ} → Ready (balanced k d s val n p v) out → n ≡ 0 → Placed (balanced k d s val n p v) out (set out 0 0) v 1
+  unfolding shape_records
+  none_placed {out} r z = let l = ready_some r in record { shape = unit; told = none_is z; wrote = wrote_set (wrote_none out) 0 l }
 
   pub one_is : n ≡ 1 → balanced k d s val n p v ≡ standing d s val p v
   one_is z = ap (λ i. balanced k d s val i p v) z ∙ balanced_one k d s val p v
@@ -51,12 +58,22 @@ module _ (d : ℕ) (s val : List ℕ) (n i p v : ℕ) where
   pub only_is : n ≡ 1 → chosen d s val n i p v ≡ standing d s val p v
   only_is z = ap (λ j. chosen d s val j i p v) z ∙ chosen_one d s val i p v
 
-  module _ (few : ℕ) (out : List ℕ) (e : few ≡ btree_split_index n) (h : 2 ≤ n) (r : Ready (chosen d s val n i p v) out) where
-    pub sum_left : i < few → Stem 1 (chosen d s val n i p v) (chosen d s val few i p v) out
-    sum_left l = left_stem (rw e (chosen_left d s val n i p v h (omega arith))) r
+-- the side on which choice i of n is: its tag, its share of the choices, and the choice among them; what is told of all is its tag and what is told of it
+pub record Side (x : ℕ × ℕ × ℕ) (d : ℕ) (s val : List ℕ) (n i p v : ℕ) (out : List ℕ) : Type 0 where
+  pub less : x.1 < n
+  pub choice : x.2 < x.1
+  pub stem : Stem x.0 (chosen d s val n i p v) (chosen d s val x.1 x.2 p v) out
 
-    pub sum_right : few ≤ i → Stem 2 (chosen d s val n i p v) (chosen d s val (n - few) (i - few) p v) out
-    sum_right l = right_stem (rw e (chosen_right d s val n i p v h (omega arith))) r
+module _ {d : ℕ} {s val : List ℕ} {n i p v few : ℕ} {out : List ℕ} (r : Ready (chosen d s val n i p v) out) (e : few ≡ btree_split_index n) (o : n ≡ 1 → ⊥) (l : i < n) {x : ℕ × ℕ × ℕ} where
+  pub on_left : i < few → x ≡ (1, few, i) → Side x d s val n i p v out
+  on_left k h =
+      let b = shares e (omega arith) in
+      rw h (record { less = omega arith; choice = k; stem = left_stem (rw e (chosen_left d s val n i p v (omega arith) (omega arith))) r })
+
+  pub on_right : few ≤ i → x ≡ (2, n - few, i - few) → Side x d s val n i p v out
+  on_right k h =
+      let b = shares e (omega arith) in
+      rw h (record { less = omega arith; choice = omega arith; stem = right_stem (rw e (chosen_right d s val n i p v (omega arith) (omega arith))) r })
 
 -- BLOCKS
 
@@ -79,6 +96,11 @@ module _ (d : ℕ) (s val : List ℕ) (n p v : ℕ) (out : List ℕ) (r : Ready 
 -- LISTS
 
 -- a list with a larger bound is written as a pair of its block and the list with half the bound
-pub list_pair : {b h : NonZeroPow2Usize} {m n d : ℕ} {s val : List ℕ} {p v : ℕ} {out : List ℕ} → Halved b h m n d s val p v → Ready (listed d s val b m p v) out
-    → Pair (listed d s val b m p v) (block_told d s val n p v) (listed d s val h (m - n) p) out
-list_pair h r = pair_of h.same r
+pub record Sides (b h : NonZeroPow2Usize) (m n d : ℕ) (s val : List ℕ) (p v : ℕ) (out : List ℕ) : Type 0 where
+  pub halved : Halved b h m n d s val p v
+  pub pair : Pair (listed d s val b m p v) (block_told d s val n p v) (listed d s val h (m - n) p) out
+
+pub list_sides : (d : ℕ) (s val : List ℕ) {b h : NonZeroPow2Usize} (m : ℕ) {n g : ℕ} (p v : ℕ) {out : List ℕ} → m < b.value → Some h ≡ half_bound b → g ≡ h.value → n ≡ block_share m g → Ready (listed d s val b m p v) out → Sides b h m n d s val p v out
+list_sides d s val m {n} p v f q e r g =
+    let k = listed_more d s val m n p v q f (r ∙ ap (block_share m) e) in
+    record { halved = k; pair = pair_of k.same g }

@@ -3,9 +3,7 @@
 #![tactic(auto)]
 
 ghost use Rattle.std.specs.Prelude.{◌≡◌, false, ◌≤◌, ◌<◌};
-ghost use Rattle.model.specs.Structural.{unit, shape_records};
-ghost use Rattle.model.specs.Values.{bit};
-ghost use Rattle.types.specs.Heads.{FairBound};
+ghost use Rattle.model.specs.Structural.{shape_records};
 ghost use Rattle.types.specs.Steps.{Given};
 ghost use Rattle.structural.specs.Writing.{Wrote};
 ghost use Rattle.structural.specs.Forms.{most_parts, Stands};
@@ -14,37 +12,19 @@ ghost use Rattle.told.specs.Laws.Lists.{record_bit, block_told};
 ghost use Rattle.shape.specs.Forms.{tag_of, Room, BitsThere, Ready, Placed, Shaped};
 ghost use Rattle.types.specs.Entries.{ends};
 
-use array::btree_split_index;
+use array::{LEFT, PAIR, RIGHT, UNIT, btree_split_index};
 use bits::get_bit;
 use num::NonZeroPow2Usize;
-use told::{Form, Parts, after_part, form_of, hop, share};
-use types::Table;
+use structural::Written;
+use told::{Form, after_part, form_of, hop, share};
+use types::{LEVELS, Parts, Table};
+use value::RECORD;
 
-// The records of a shape.
-const UNIT: u8 = 0;
-
-const LEFT: u8 = 1;
-
-const RIGHT: u8 = 2;
-
-const PAIR: u8 = 3;
-
-// The bytes of a record of a value file.
-const RECORD: usize = 36;
-
-// The record after the value that was written, and the number of bytes.
-#[derive(Clone, Copy)]
-struct Written {
-    next: usize,
-    len: usize,
-}
-
-// The type's record after the parts that were written, the record after their values, and the number of bytes.
+// The type's record after the parts that were written, and what was written of their values.
 #[derive(Clone, Copy)]
 struct Row {
     at: usize,
-    next: usize,
-    len: usize,
+    written: Written,
 }
 
 // The tag of bit j of record v.
@@ -55,39 +35,23 @@ fn tag(val: &[u8], v: usize, j: usize) -> u8
     let start = v * RECORD;
     let end = start + RECORD;
     if get_bit(&val[start..end], j) {
-        return RIGHT;
+        RIGHT
+    } else {
+        LEFT
     }
-    LEFT
 }
 
-// Writes a unit, and answers its one byte.
-fn write_unit(out: &mut [u8]) -> usize
-    requires { Room unit out.old }
-    ensures { Wrote (shape_records unit) out.old out.new result }
-{
-    out[0] = UNIT;
-    1
-}
-
-// Writes bit j of record v, a tag and a unit, and answers its two bytes.
-fn write_bit(val: &[u8], v: usize, j: usize, out: &mut [u8]) -> usize
-    requires bits_there { BitsThere val.now v j 1 }
-    requires room { Room (bit (record_bit val.now v j)) out.old }
-    ensures { Wrote (shape_records (bit (record_bit val.now v j))) out.old out.new result }
-{
-    out[0] = tag(val, v, j);
-    out[1] = UNIT;
-    2
-}
-
-// Writes the balanced product of the n bits from bit j of record v on, and answers its length.
+// Writes the balanced product of the n bits from bit j of record v on, each a tag and a unit, and answers its length.
+// `restore::write_bits` goes the other way: it reads these records and sets the bits.
 fn write_bits(val: &[u8], v: usize, j: usize, n: usize, out: &mut [u8]) -> usize
     requires bits_there { BitsThere val.now v j n }
     requires room { Room (bits_told val.now v j n) out.old }
     ensures { Wrote (shape_records (bits_told val.now v j n)) out.old out.new result }
 {
     if n == 1 {
-        return write_bit(val, v, j, out);
+        out[0] = tag(val, v, j);
+        out[1] = UNIT;
+        return 2;
     }
     out[0] = PAIR;
     let few = btree_split_index(n);
@@ -97,6 +61,7 @@ fn write_bits(val: &[u8], v: usize, j: usize, n: usize, out: &mut [u8]) -> usize
 }
 
 // Writes the value at record v of what stands at record `at` of the type, with `level` levels from there on, and answers the record after the value and the length.
+// The walks of `frame` and `unframe`, `rebuild` and `shape_clean`, `restore` and `accept` over a type read or write other files at each step: bits at any place, or a shape's records. What is the same of them is in `types::Form`, `told` and `array`.
 #[cycle(write_block_write_list_write_record_write_sum_write_tree)]
 fn write_record(
     table: &Table<'_>,
@@ -116,11 +81,7 @@ fn write_record(
             len: write_bits(val, v, j, n, out),
         },
         Form::Product(parts, n) => {
-            let row = write_tree(table, at + 1, level - 1, n, parts, val, v + 1, out);
-            Written {
-                next: row.next,
-                len: row.len,
-            }
+            write_tree(table, at + 1, level - 1, n, parts, val, v + 1, out).written
         }
         Form::Sum(n, i) => {
             let place = hop(table, at + 1, i);
@@ -128,11 +89,7 @@ fn write_record(
         }
         Form::List(bound, m) => write_list(table, at + 1, level - 1, bound, m, val, v + 1, out),
         Form::Payload(n) => {
-            let row = write_tree(table, at + 1, level - 1, n, Parts::Types, val, v, out);
-            Written {
-                next: row.next,
-                len: row.len,
-            }
+            write_tree(table, at + 1, level - 1, n, Parts::Types, val, v, out).written
         }
     }
 }
@@ -152,28 +109,24 @@ fn write_tree(
     requires n_le_most_parts { n ≤ most_parts }
     requires given_parts { GivenParts parts level table.now.ty.now (ends table.now.entries.now) n at }
     requires ready { Ready (balanced parts level table.now.ty.now val.now n at v) out.old }
-    ensures { Placed (balanced parts level table.now.ty.now val.now n at v) out.old out.new result.next result.len × (result.at ≡ skip parts level table.now.ty.now n at) }
+    ensures { Placed (balanced parts level table.now.ty.now val.now n at v) out.old out.new result.written.next result.written.len × (result.at ≡ skip parts level table.now.ty.now n at) }
 {
     if n == 0 {
-        return Row {
-            at: at,
-            next: v,
-            len: write_unit(out),
-        };
+        out[0] = UNIT;
+        let written = Written { next: v, len: 1 };
+        return Row { at, written };
     }
     if n == 1 {
-        let one = write_record(table, at, level, val, v, out);
         return Row {
             at: after_part(table, at, parts),
-            next: one.next,
-            len: one.len,
+            written: write_record(table, at, level, val, v, out),
         };
     }
     out[0] = PAIR;
     let few = btree_split_index(n);
     let others = n - few;
     let left = write_tree(table, at, level, few, parts, val, v, &mut out[1..]);
-    let k = left.len + 1;
+    let k = left.written.len + 1;
     let right = write_tree(
         table,
         left.at,
@@ -181,13 +134,16 @@ fn write_tree(
         others,
         parts,
         val,
-        left.next,
+        left.written.next,
         &mut out[k..],
     );
+    let written = Written {
+        next: right.written.next,
+        len: right.written.len + k,
+    };
     Row {
         at: right.at,
-        next: right.next,
-        len: right.len + k,
+        written,
     }
 }
 
@@ -212,20 +168,16 @@ fn write_sum(
         return write_record(table, at, level, val, v, out);
     }
     let few = btree_split_index(n);
-    if i < few {
-        out[0] = LEFT;
-        let left = write_sum(table, at, level, few, i, val, v, &mut out[1..]);
-        return Written {
-            next: left.next,
-            len: left.len + 1,
-        };
-    }
-    out[0] = RIGHT;
-    let others = n - few;
-    let right = write_sum(table, at, level, others, i - few, val, v, &mut out[1..]);
+    let (side, share, choice) = if i < few {
+        (LEFT, few, i)
+    } else {
+        (RIGHT, n - few, i - few)
+    };
+    out[0] = side;
+    let chosen = write_sum(table, at, level, share, choice, val, v, &mut out[1..]);
     Written {
-        next: right.next,
-        len: right.len + 1,
+        next: chosen.next,
+        len: chosen.len + 1,
     }
 }
 
@@ -251,10 +203,10 @@ fn write_block(
         return Written { next: v, len: 2 };
     }
     out[0] = RIGHT;
-    let row = write_tree(table, at, level, n, Parts::Copies, val, v, &mut out[1..]);
+    let elements = write_tree(table, at, level, n, Parts::Copies, val, v, &mut out[1..]).written;
     Written {
-        next: row.next,
-        len: row.len + 1,
+        next: elements.next,
+        len: elements.len + 1,
     }
 }
 
@@ -270,7 +222,7 @@ fn write_list(
     v: usize,
     out: &mut [u8],
 ) -> Written
-    requires fair_bound { FairBound bound × (m < bound.0) }
+    requires few { m < bound.value }
     requires stands { Stands level table.now.ty.now (ends table.now.entries.now) at }
     requires ready { Ready (listed level table.now.ty.now val.now bound m at v) out.old }
     ensures { Placed (listed level table.now.ty.now val.now bound m at v) out.old out.new result.next result.len }
@@ -307,5 +259,5 @@ pub fn write_shape(table: &Table<'_>, val: &[u8], out: &mut [u8]) -> usize
     requires ready { Ready (standing 32 table.now.ty.now val.now 0 0) out.old }
     ensures { Shaped (standing 32 table.now.ty.now val.now 0 0) out.old out.new result }
 {
-    write_record(table, 0, 32, val, 0, out).len
+    write_record(table, 0, LEVELS, val, 0, out).len
 }

@@ -5,6 +5,7 @@ use mathlib.Core.List.{List, [], ◌∷◌}
 use mathlib.Core.Option.{some, none-ne-some}
 use Prim.Native.Nat.{ℕ, ◌+◌, ◌-◌, ◌*◌, ◌^◌, ◌≤◌, ◌<◌}
 use native.Mathlib.Omega.{arith}
+use Rattle.std.proofs.lemmas.Grind.{get_or_default_zero}
 use mir.Syntax.{w64}
 use mir.Val.{Fits}
 use lib.ListN.{length, get_or, set, length-set}
@@ -13,27 +14,28 @@ use Rattle.num.specs.declared.NonZeroPow2Usize.{NonZeroPow2Usize}
 use Rattle.num.specs.Powers.{half_bound}
 use Rattle.model.specs.Balanced.{btree_split_index}
 use Rattle.model.specs.Structural.{unit, shape_records}
-use Rattle.model.proofs.Laws.Balanced.{Shares, shares_else}
+use Rattle.model.proofs.Laws.Balanced.{Shares, shares}
 use Rattle.types.specs.declared.Head.{Head}
 use Rattle.types.specs.Record.{head_at}
-use Rattle.types.specs.Heads.{Fair, FairBound}
+use Rattle.types.specs.Heads.{Fair}
 use Rattle.structural.specs.Forms.{most_parts, Stands}
 use Rattle.structural.proofs.Laws.Bounds.{bound_small}
-use Rattle.structural.proofs.Laws.Forms.{level_some}
+use Rattle.structural.proofs.Laws.Forms.{level_some, next_fits}
 use Rattle.structural.proofs.Laws.Writing.{rest, back, wrote_none, wrote_set, wrote_as}
 use Rattle.told.specs.Forms.{Told, hops}
 use Rattle.shape.specs.Forms.{Ready, Placed}
-use Rattle.shape.specs.Laws.Writing.{ready_some, placed_length, Stem, left_stem, right_stem, stem_ready, stem_small, stem_done, Pair, pair_of, left_ready, pair_small, pair_fits, right_ready, pair_total, pair_done}
-use Rattle.rebuild.specs.declared.Form.{Form}
-use Rattle.rebuild.specs.declared.Form.TheVariants as form
-use Rattle.rebuild.specs.declared.Parts.{Parts}
-use Rattle.rebuild.specs.declared.Parts.TheVariants.{Bits, Copies, Types}
-use Rattle.rebuild.specs.Forms.{form_of, skip, Hopped, GivenParts, standing, part, balanced, chosen, block_of, listed}
-use Rattle.rebuild.specs.Laws.Forms.{balanced_none, balanced_one, balanced_step, chosen_one, chosen_step, block_sum, given_hopped, one_given, left_given, right_given, as_formed, as_product, as_sum, as_list, as_payload}
+use Rattle.shape.specs.Laws.Writing.{ready_some, ready_as, placed_as, placed_length, Stem, left_stem, right_stem, stem_ready, stem_small, stem_done, Pair, pair_of, left_ready, pair_small, pair_fits, right_ready, pair_total, pair_done}
+use Rattle.types.specs.declared.forms.Form.{Form}
+use Rattle.types.specs.declared.forms.Form.TheVariants as form
+use Rattle.types.specs.declared.forms.Parts.{Parts}
+use Rattle.types.specs.declared.forms.Parts.TheVariants.{Copies, Types}
+use Rattle.types.specs.Forms.{form_of}
+use Rattle.rebuild.specs.Forms.{skip, Hopped, GivenParts, standing, bits_of, balanced, chosen, block_of, listed}
+use Rattle.rebuild.specs.Laws.Forms.{given_copies, balanced_none, balanced_one, balanced_step, bits_one, bits_step, chosen_one, chosen_step, block_sum, given_hopped, one_given, left_given, right_given, as_formed, as_bit, as_integer, as_product, as_sum, as_list, as_payload}
 use Rattle.rebuild.specs.Laws.Lists.{list_two, Halved, list_more}
 use Rattle.rebuild.specs.Places.{passed, units, sums, pairs, passes, bit, at_places}
 use Rattle.shape_clean.specs.Copies.{Copier, copied, copier}
-use Rattle.shape_clean.specs.Laws.Steps.{BitThere, bit_there, unit_there, sum_inside, sum_left, sum_right, pair_there}
+use Rattle.shape_clean.specs.Laws.Steps.{BitThere, bit_there, unit_there, sum_inside, sum_left, sum_right, sum_two, pair_there}
 
 -- what is copied at one place
 here : {r t : Copier} (p : ℕ) → r ≡ t → r p ≡ t p
@@ -46,6 +48,15 @@ tag_start t out b r = let l = ready_some r in simp length-set (omega arith)
 -- the buffer is as long as it was
 pub same_count : {t : Told} {out o : List ℕ} {next len : ℕ} → Placed t out o next len → Ready t out → length o ≡ length out
 same_count w r = placed_length r w
+
+-- PAIRS
+
+module _ (sh : List ℕ) (p : ℕ) {t : Told} (l r : Copier) {out : List ℕ} (e : t ≡ pairs copied sh l r p) (g : Ready t out) where
+  inside : p + 1 ≤ length sh
+  inside = (pair_there sh p (g.shape, g.end) l r (sym e ∙ g.told)).0
+
+  pub split : Pair t (l (p + 1)) r out
+  split = pair_of (e ∙ (pair_there sh p (g.shape, g.end) l r (sym e ∙ g.told)).1) g
 
 -- SPOTS AND BITS
 
@@ -68,18 +79,53 @@ module _ (sh : List ℕ) (p : ℕ) (out : List ℕ) (r : Ready (bit copied sh p)
   pub bit_fits : length sh < 2 ^ 64 → Fits w64 (p + 2)
   bit_fits l = let i = there.inside in omega arith
 
-  pub bit_placed : (b : ℕ) → b ≡ get_or sh p 4 → Placed (bit copied sh p) out (set (set out 0 b) 1 0) (p + 2) 2
-  bit_placed b e =
+  pub bit_inside : p < length sh
+  bit_inside = let i = there.inside in omega arith
+
+  pub bit_placed : Placed (bit copied sh p) out (set (set out 0 (get_or sh p 0)) 1 0) (p + 2) 2
+  bit_placed =
       let l = bit_room in
-      record { shape = r.shape; told = r.told ∙ ap (λ i. some (r.shape, i)) there.after; wrote = rw e (wrote_as there.records (wrote_set (wrote_set (wrote_none out) (get_or sh p 4) (omega arith)) 0 (omega arith))) }
+      let e = get_or_default_zero sh p 4 bit_inside in
+      record { shape = r.shape; told = r.told ∙ ap (λ i. some (r.shape, i)) there.after; wrote = wrote_as (there.records ∙ ap (λ b. b ∷ 0 ∷ []) e) (wrote_set (wrote_set (wrote_none out) (get_or sh p 0) (omega arith)) 0 (omega arith)) }
+
+module _ (sh : List ℕ) (n p : ℕ) where
+  pub bits_only : n ≡ 1 → bits_of (copier sh) n p ≡ bit copied sh p
+  unfolding copier at_places copied
+  bits_only e = here p (bits_one (copier sh) n e)
+
+  module _ (few : ℕ) (e : few ≡ btree_split_index n) (two : 2 ≤ n) {out : List ℕ} (r : Ready (bits_of (copier sh) n p) out) where
+    bits_is : bits_of (copier sh) n p ≡ pairs copied sh (bits_of (copier sh) few) (bits_of (copier sh) (n - few)) p
+    unfolding copier at_places copied
+    bits_is = here p (bits_step (copier sh) n few e two)
+
+    pub bits_inside : p + 1 ≤ length sh
+    bits_inside = inside sh p _ _ bits_is r
+
+    pub bits_split : Pair (bits_of (copier sh) n p) (bits_of (copier sh) few (p + 1)) (bits_of (copier sh) (n - few)) out
+    bits_split = split sh p _ _ bits_is r
 
 -- RECORDS
 
 module _ (d : ℕ) (s E : List ℕ) (p : ℕ) (g : Stands d s E p) where
   module _ (h : Head) (f : Form) (e : h ≡ head_at s p) (i : Fair h) (j : f ≡ form_of h) where
-    pub not_refused : (sh : List ℕ) (q : ℕ) (out : List ℕ) → f ≡ form.Refused → Ready (standing (copier sh) d s p q) out → ⊥
+    pub not_nothing : (sh : List ℕ) (q : ℕ) (out : List ℕ) → f ≡ form.Nothing → Ready (standing (copier sh) d s p q) out → ⊥
     unfolding copier at_places copied
-    not_refused sh q out k r = none-ne-some _ (sym (here q (as_formed g (copier sh) h f e i j form.Refused k)) ∙ r.told)
+    not_nothing sh q out k r = none-ne-some _ (sym (here q (as_formed g (copier sh) h f e i j form.Nothing k)) ∙ r.told)
+
+    pub record_bit : (sh : List ℕ) (q : ℕ) → f ≡ form.Bit → standing (copier sh) d s p q ≡ bit copied sh q
+    unfolding copier at_places copied
+    record_bit sh q o = here q (as_bit g (copier sh) h f e i j o)
+
+    module _ (w : ℕ) (o : f ≡ form.Integer w) where
+      pub integer_some : 1 ≤ w
+      integer_some = (as_integer g (copier s) h f e i j w o).some
+
+      pub integer_few : w ≤ 256
+      integer_few = (as_integer g (copier s) h f e i j w o).few
+
+      pub record_integer : (sh : List ℕ) (q : ℕ) → standing (copier sh) d s p q ≡ bits_of (copier sh) w q
+      unfolding copier at_places copied
+      record_integer sh q = here q (as_integer g (copier sh) h f e i j w o).same
 
     module _ (k : Parts) (n : ℕ) (o : f ≡ form.Product k n) where
       pub product_few : n ≤ most_parts
@@ -107,9 +153,6 @@ module _ (d : ℕ) (s E : List ℕ) (p : ℕ) (g : Stands d s E p) where
       record_sum sh q = here q (as_sum g (copier sh) h f e i j n o).same
 
     module _ (b : NonZeroPow2Usize) (o : f ≡ form.List b) where
-      pub list_fair : FairBound b
-      list_fair = (as_list g (copier s) h f e i j b o).fair
-
       pub list_given : Stands (d - 1) s E (p + 1)
       list_given = (as_list g (copier s) h f e i j b o).given
 
@@ -132,30 +175,17 @@ module _ (d : ℕ) (s E : List ℕ) (p : ℕ) (g : Stands d s E p) where
     pub falls_to_parts : (n : ℕ) → n ≤ most_parts → (d - 1) * 2 ^ 17 + n + 1 < t
     falls_to_parts n l = omega (arith, level_some g)
 
-    pub falls_to_list : (b : NonZeroPow2Usize) → FairBound b → (d - 1) * 2 ^ 17 + b.0 + 4 < t
-    falls_to_list b f = omega (arith, level_some g, bound_small f)
-
--- PARTS
-
-module _ (sh : List ℕ) (k : Parts) (d : ℕ) (s : List ℕ) (q p : ℕ) where
-  pub part_bit : k ≡ Bits → part (copier sh) k d s q p ≡ bit copied sh p
-  unfolding copier at_places copied
-  part_bit e = ap (λ k. part (copier sh) k d s q p) e
-
-  pub part_copy : k ≡ Copies → part (copier sh) k d s q p ≡ standing (copier sh) d s q p
-  part_copy e = ap (λ k. part (copier sh) k d s q p) e
-
-  pub part_type : k ≡ Types → part (copier sh) k d s q p ≡ standing (copier sh) d s q p
-  part_type e = ap (λ k. part (copier sh) k d s q p) e
+    pub falls_to_list : (b : NonZeroPow2Usize) → (d - 1) * 2 ^ 17 + b.value + 4 < t
+    falls_to_list b = omega (arith, level_some g, bound_small b)
 
 -- PRODUCTS
 
 pub falls_to_record : (d n t : ℕ) → d * 2 ^ 17 + n + 1 ≡ t → d * 2 ^ 17 < t
 falls_to_record d n t m = omega arith
 
-module _ (n few : ℕ) (e : few ≡ btree_split_index n) (z : n ≡ 0 → ⊥) (o : n ≡ 1 → ⊥) where
+module _ (n few : ℕ) (e : few ≡ btree_split_index n) (two : 2 ≤ n) where
   shared : Shares n few
-  shared = shares_else e z o
+  shared = shares e two
 
   pub product_others : few ≤ n
   product_others = let l = shared.less in omega arith
@@ -188,20 +218,20 @@ module _ (sh : List ℕ) (k : Parts) (d : ℕ) (s E : List ℕ) (n q p : ℕ) wh
   unfolding copier at_places
   none_is z = here p (balanced_none (copier sh) k d s E n q z)
 
-  pub one_is : n ≡ 1 → balanced (copier sh) k d s E n q p ≡ part (copier sh) k d s q p
+  pub one_is : n ≡ 1 → balanced (copier sh) k d s E n q p ≡ standing (copier sh) d s q p
   one_is z = here p (balanced_one (copier sh) k d s E n q z)
 
-  module _ (few : ℕ) (out : List ℕ) (e : few ≡ btree_split_index n) (z : n ≡ 0 → ⊥) (o : n ≡ 1 → ⊥) (r : Ready (balanced (copier sh) k d s E n q p) out) where
+  module _ (few : ℕ) (out : List ℕ) (e : few ≡ btree_split_index n) (two : 2 ≤ n) (r : Ready (balanced (copier sh) k d s E n q p) out) where
     product_is : balanced (copier sh) k d s E n q p ≡ pairs copied sh (balanced (copier sh) k d s E few q) (balanced (copier sh) k d s E (n - few) (skip k E few q)) p
     unfolding copier at_places
-    product_is = here p (balanced_step (copier sh) k d s E n few q e (omega arith))
+    product_is = here p (balanced_step (copier sh) k d s E n few q e two)
 
     pub product_next : length sh < 2 ^ 64 → Fits w64 (p + 1)
-    product_next l = omega (arith, (pair_there sh p (r.shape, r.end) _ _ (sym product_is ∙ r.told)).0)
+    product_next l = omega (arith, inside sh p _ _ product_is r)
 
     -- a pair: the left side, and the right side from the type's record i on
     both : (i : ℕ) → i ≡ skip k E few q → Pair (balanced (copier sh) k d s E n q p) (balanced (copier sh) k d s E few q (p + 1)) (balanced (copier sh) k d s E (n - few) i) out
-    both i g = rw g (pair_of (product_is ∙ (pair_there sh p (r.shape, r.end) _ _ (sym product_is ∙ r.told)).1) r)
+    both i g = rw g (split sh p _ _ product_is r)
 
     pub product_left : Ready (balanced (copier sh) k d s E few q (p + 1)) (rest 1 (set out 0 3))
     product_left = left_ready (both (skip k E few q) refl)
@@ -226,35 +256,12 @@ module _ (sh : List ℕ) (k : Parts) (d : ℕ) (s E : List ℕ) (n q p : ℕ) wh
 
 -- SUMS
 
-module _ (n few : ℕ) (e : few ≡ btree_split_index n) (l : 1 ≤ n) (o : n ≡ 1 → ⊥) where
-  pub chosen_others : few ≤ n
-  chosen_others = product_others n few e (λ z. omega arith) o
-
-  pub chosen_left_some : 1 ≤ few
-  chosen_left_some = (shared n few e (λ z. omega arith) o).some
-
-  pub chosen_right_some : 1 ≤ n - few
-  chosen_right_some = let h = (shared n few e (λ z. omega arith) o).less in omega arith
-
-  pub chosen_left_few : n ≤ most_parts → few ≤ most_parts
-  chosen_left_few = left_few n few e (λ z. omega arith) o
-
-  module _ (d t : ℕ) (m : d * 2 ^ 17 + n + 1 ≡ t) where
-    pub chosen_falls_left : d * 2 ^ 17 + few + 1 < t
-    chosen_falls_left = falls_left n few e (λ z. omega arith) o d t m
-
-    pub chosen_falls_right : d * 2 ^ 17 + (n - few) + 1 < t
-    chosen_falls_right = falls_right n few e (λ z. omega arith) o d t m
-
-  module _ (d : ℕ) (s E : List ℕ) (q : ℕ) (g : GivenParts Types d s E n q) where
-    pub chosen_left_given : GivenParts Types d s E few q
-    chosen_left_given = product_left_given n few e (λ z. omega arith) o Types d s E q g
-
-    pub chosen_hopped : Hopped Types E few q
-    chosen_hopped = product_hopped n few e (λ z. omega arith) o Types d s E q g
-
-    pub chosen_right_given : (i : ℕ) → i ≡ hops E few q → GivenParts Types d s E (n - few) i
-    chosen_right_given = product_right_given n few e (λ z. omega arith) o Types d s E q g
+-- the side of a sum that the record says: from a record on, so many of its n records
+pub record Side (sh : List ℕ) (d : ℕ) (s E : List ℕ) (n q p : ℕ) (out : List ℕ) (i : ℕ × ℕ) : Type 0 where
+  pub some : 1 ≤ i.1
+  pub less : i.1 < n
+  pub given : GivenParts Types d s E i.1 i.0
+  pub stem : Stem (get_or sh p 0) (chosen (copier sh) d s E n q p) (chosen (copier sh) d s E i.1 i.0 (p + 1)) out
 
 pub only_given : (d : ℕ) (s E : List ℕ) (n q : ℕ) → GivenParts Types d s E n q → n ≡ 1 → Stands d s E q
 only_given d s E n q g z = one_given g z
@@ -263,42 +270,35 @@ module _ (sh : List ℕ) (d : ℕ) (s E : List ℕ) (n q p : ℕ) where
   pub only_is : n ≡ 1 → chosen (copier sh) d s E n q p ≡ standing (copier sh) d s q p
   only_is z = here p (chosen_one (copier sh) d s E n q z)
 
-  module _ (few : ℕ) (out : List ℕ) (e : few ≡ btree_split_index n) (l : 1 ≤ n) (o : n ≡ 1 → ⊥) (r : Ready (chosen (copier sh) d s E n q p) out) where
+  module _ (few : ℕ) (out : List ℕ) (e : few ≡ btree_split_index n) (two : 2 ≤ n) (r : Ready (chosen (copier sh) d s E n q p) out) where
     sum_is : chosen (copier sh) d s E n q p ≡ sums copied sh (chosen (copier sh) d s E few q) (chosen (copier sh) d s E (n - few) (hops E few q)) p
     unfolding copier at_places
-    sum_is = here p (chosen_step (copier sh) d s E n few q e (omega arith))
+    sum_is = here p (chosen_step (copier sh) d s E n few q e two)
+
+    sum_told : sums copied sh (chosen (copier sh) d s E few q) (chosen (copier sh) d s E (n - few) (hops E few q)) p ≡ some (r.shape, r.end)
+    sum_told = sym sum_is ∙ r.told
 
     pub chosen_next : length sh < 2 ^ 64 → Fits w64 (p + 1)
-    chosen_next h = omega (arith, sum_inside sh p (r.shape, r.end) _ _ (sym sum_is ∙ r.told))
+    chosen_next h = omega (arith, sum_inside sh p (r.shape, r.end) _ _ sum_told)
 
-    module _ (b : ℕ) (g : b ≡ get_or sh p 4) where
-      module _ (j : b ≡ 1) where
-        on_left : Stem 1 (chosen (copier sh) d s E n q p) (chosen (copier sh) d s E few q (p + 1)) out
-        on_left = left_stem (sum_is ∙ sum_left sh p (r.shape, r.end) _ _ (sym sum_is ∙ r.told) (sym g ∙ j)) r
+    pub chosen_inside : p < length sh
+    chosen_inside = omega (arith, sum_inside sh p (r.shape, r.end) _ _ sum_told)
 
-        pub chosen_left : Ready (chosen (copier sh) d s E few q (p + 1)) (rest 1 (set out 0 1))
-        chosen_left = stem_ready on_left
+    sum_there : get_or sh p 4 ≡ get_or sh p 0
+    sum_there = get_or_default_zero sh p 4 chosen_inside
 
-        module _ (a : List ℕ) (next len : ℕ) (w : Placed (chosen (copier sh) d s E few q (p + 1)) (rest 1 (set out 0 1)) a next len) where
-          pub chosen_left_total : length out < 2 ^ 64 → Fits w64 (len + 1)
-          chosen_left_total h = omega (arith, stem_small on_left w)
+    module _ (g : GivenParts Types d s E n q) where
+      pub left_side : get_or sh p 0 ≡ 1 → Side sh d s E n q p out (q, few)
+      left_side j = let h = shared n few e two in record { some = h.some; less = h.less; given = left_given h g; stem = rw j (left_stem (sum_is ∙ sum_left sh p (r.shape, r.end) _ _ sum_told (sum_there ∙ j)) r) }
 
-          pub chosen_left_done : Placed (chosen (copier sh) d s E n q p) out (back 1 (set out 0 1) a) next (len + 1)
-          chosen_left_done = stem_done on_left w
-
-      module _ (j : b ≡ 1 → ⊥) (i : ℕ) (f : i ≡ hops E few q) where
-        on_right : Stem 2 (chosen (copier sh) d s E n q p) (chosen (copier sh) d s E (n - few) i (p + 1)) out
-        on_right = rw f (right_stem (sum_is ∙ sum_right sh p (r.shape, r.end) _ _ (sym sum_is ∙ r.told) (λ a. j (g ∙ a))) r)
-
-        pub chosen_right : Ready (chosen (copier sh) d s E (n - few) i (p + 1)) (rest 1 (set out 0 2))
-        chosen_right = stem_ready on_right
-
-        module _ (a : List ℕ) (next len : ℕ) (w : Placed (chosen (copier sh) d s E (n - few) i (p + 1)) (rest 1 (set out 0 2)) a next len) where
-          pub chosen_right_total : length out < 2 ^ 64 → Fits w64 (len + 1)
-          chosen_right_total h = omega (arith, stem_small on_right w)
-
-          pub chosen_right_done : Placed (chosen (copier sh) d s E n q p) out (back 1 (set out 0 2) a) next (len + 1)
-          chosen_right_done = stem_done on_right w
+      pub right_side : (get_or sh p 0 ≡ 1 → ⊥) → (i : ℕ) → i ≡ hops E few q → Side sh d s E n q p out (i, n - few)
+      right_side j i f =
+          let h = shared n few e two in
+          let l = h.less in
+          let m = h.some in
+          let no : get_or sh p 4 ≡ 1 → ⊥ = λ a. j (sym sum_there ∙ a) in
+          let t : get_or sh p 0 ≡ 2 = sym sum_there ∙ sum_two sh p (r.shape, r.end) _ _ sum_told no in
+          record { some = omega arith; less = omega arith; given = right_given h g f; stem = rw (f, t) (right_stem (sum_is ∙ sum_right sh p (r.shape, r.end) _ _ sum_told no) r) }
 
 -- BLOCKS
 
@@ -331,74 +331,76 @@ module _ (sh : List ℕ) (d : ℕ) (s : List ℕ) (n q p : ℕ) (out : List ℕ)
   pub block_next : length sh < 2 ^ 64 → Fits w64 (p + 1)
   block_next h = omega (arith, sum_inside sh p (r.shape, r.end) _ _ (sym (block_is s) ∙ r.told))
 
-  module _ (b : ℕ) (g : b ≡ get_or sh p 4) where
-    module _ (j : b ≡ 1 → ⊥) (E : List ℕ) where
-      all_of : Stem 2 (block_of (copier sh) d s n q p) (balanced (copier sh) Copies d s E n q (p + 1)) out
-      all_of = right_stem (block_is E ∙ sum_right sh p (r.shape, r.end) _ _ (sym (block_is E) ∙ r.told) (λ a. j (g ∙ a))) r
+  pub block_inside : p < length sh
+  block_inside = omega (arith, sum_inside sh p (r.shape, r.end) _ _ (sym (block_is s) ∙ r.told))
 
-      pub block_right : Ready (balanced (copier sh) Copies d s E n q (p + 1)) (rest 1 (set out 0 2))
-      block_right = stem_ready all_of
+  block_there : get_or sh p 4 ≡ get_or sh p 0
+  block_there = get_or_default_zero sh p 4 block_inside
 
-      module _ (a : List ℕ) (next len : ℕ) (w : Placed (balanced (copier sh) Copies d s E n q (p + 1)) (rest 1 (set out 0 2)) a next len) where
-        pub block_total : length out < 2 ^ 64 → Fits w64 (len + 1)
-        block_total h = omega (arith, stem_small all_of w)
+  module _ (j : get_or sh p 0 ≡ 1 → ⊥) (E : List ℕ) where
+    all_of : Stem 2 (block_of (copier sh) d s n q p) (balanced (copier sh) Copies d s E n q (p + 1)) out
+    all_of = right_stem (block_is E ∙ sum_right sh p (r.shape, r.end) _ _ (sym (block_is E) ∙ r.told) (λ a. j (sym block_there ∙ a))) r
 
-        pub block_done : Placed (block_of (copier sh) d s n q p) out (back 1 (set out 0 2) a) next (len + 1)
-        block_done = stem_done all_of w
+    pub block_right : Ready (balanced (copier sh) Copies d s E n q (p + 1)) (rest 1 (set out 0 2))
+    block_right = stem_ready all_of
 
-    module _ (j : b ≡ 1) where
-      none_of : Stem 1 (block_of (copier sh) d s n q p) (units copied sh (p + 1)) out
-      none_of = left_stem (block_is s ∙ sum_left sh p (r.shape, r.end) _ _ (sym (block_is s) ∙ r.told) (sym g ∙ j)) r
+    module _ (a : List ℕ) (next len : ℕ) (w : Placed (balanced (copier sh) Copies d s E n q (p + 1)) (rest 1 (set out 0 2)) a next len) where
+      pub block_total : length out < 2 ^ 64 → Fits w64 (len + 1)
+      block_total h = omega (arith, stem_small all_of w)
 
-      pub empty_second : 1 < length (set out 0 1)
-      empty_second = let l = empty_room sh p none_of in simp length-set (omega arith)
+      pub block_done : Placed (block_of (copier sh) d s n q p) out (back 1 (set out 0 2) a) next (len + 1)
+      block_done = stem_done all_of w
 
-      pub empty_fits : length sh < 2 ^ 64 → Fits w64 (p + 2)
-      empty_fits h = omega (arith, (empty_unit sh p none_of).0)
+  module _ (j : get_or sh p 0 ≡ 1) where
+    none_of : Stem 1 (block_of (copier sh) d s n q p) (units copied sh (p + 1)) out
+    none_of = left_stem (block_is s ∙ sum_left sh p (r.shape, r.end) _ _ (sym (block_is s) ∙ r.told) (block_there ∙ j)) r
 
-      pub empty_placed : Placed (block_of (copier sh) d s n q p) out (set (set out 0 1) 1 0) (p + 2) 2
-      empty_placed = unit_placed sh p none_of
+    pub empty_second : 1 < length (set out 0 1)
+    empty_second = let l = empty_room sh p none_of in simp length-set (omega arith)
+
+    pub empty_fits : length sh < 2 ^ 64 → Fits w64 (p + 2)
+    empty_fits h = omega (arith, (empty_unit sh p none_of).0)
+
+    pub empty_placed : Placed (block_of (copier sh) d s n q p) out (set (set out 0 1) 1 0) (p + 2) 2
+    empty_placed = unit_placed sh p none_of
 
 -- LISTS
 
 pub one_few : 1 ≤ most_parts
 one_few = omega arith
 
-module _ (b : NonZeroPow2Usize) (g : FairBound b) (o : Option NonZeroPow2Usize) (u : o ≡ half_bound b.0) where
+module _ (b : NonZeroPow2Usize) (o : Option NonZeroPow2Usize) (u : o ≡ half_bound b) where
   pub two_is : (sh : List ℕ) (d : ℕ) (s : List ℕ) (q p : ℕ) → o ≡ None → listed (copier sh) d s b q p ≡ block_of (copier sh) d s 1 q p
-  two_is sh d s q p v = here p (list_two (copier sh) d s q g (sym v ∙ u))
+  two_is sh d s q p v = here p (list_two (copier sh) d s q b (sym v ∙ u))
 
-  pub falls_to_two : (d t : ℕ) → d * 2 ^ 17 + b.0 + 4 ≡ t → d * 2 ^ 17 + 1 + 2 < t
+  pub falls_to_two : (d t : ℕ) → d * 2 ^ 17 + b.value + 4 ≡ t → d * 2 ^ 17 + 1 + 2 < t
   falls_to_two d t m = omega arith
 
   module _ (a : NonZeroPow2Usize) (v : o ≡ Some a) where
     halved : (sh : List ℕ) (d : ℕ) (s : List ℕ) (q : ℕ) → Halved (copier sh) b a d s q
-    halved sh d s q = list_more (copier sh) d s q g (sym v ∙ u)
+    halved sh d s q = list_more (copier sh) d s q (sym v ∙ u)
 
-    pub half_fair : FairBound a
-    half_fair = (halved [] 0 [] 0).fair
+    pub half_few : (n : ℕ) → n ≡ a.value → n ≤ most_parts
+    half_few n h = omega (arith, bound_small a)
 
-    pub half_few : (n : ℕ) → n ≡ a.0 → n ≤ most_parts
-    half_few n h = omega (arith, bound_small half_fair)
-
-    module _ (d t : ℕ) (m : d * 2 ^ 17 + b.0 + 4 ≡ t) where
-      pub falls_to_block : (n : ℕ) → n ≡ a.0 → d * 2 ^ 17 + n + 2 < t
+    module _ (d t : ℕ) (m : d * 2 ^ 17 + b.value + 4 ≡ t) where
+      pub falls_to_block : (n : ℕ) → n ≡ a.value → d * 2 ^ 17 + n + 2 < t
       falls_to_block n h = let l = (halved [] 0 [] 0).less in omega arith
 
-      pub falls_to_half : d * 2 ^ 17 + a.0 + 4 < t
+      pub falls_to_half : d * 2 ^ 17 + a.value + 4 < t
       falls_to_half = let l = (halved [] 0 [] 0).less in omega arith
 
     module _ (sh : List ℕ) (d : ℕ) (s : List ℕ) (q p : ℕ) (out : List ℕ) (r : Ready (listed (copier sh) d s b q p) out) where
-      list_is : listed (copier sh) d s b q p ≡ pairs copied sh (block_of (copier sh) d s a.0 q) (listed (copier sh) d s a q) p
+      list_is : listed (copier sh) d s b q p ≡ pairs copied sh (block_of (copier sh) d s a.value q) (listed (copier sh) d s a q) p
       unfolding copier at_places
       list_is = here p (halved sh d s q).same
 
       pub list_next : length sh < 2 ^ 64 → Fits w64 (p + 1)
-      list_next l = omega (arith, (pair_there sh p (r.shape, r.end) _ _ (sym list_is ∙ r.told)).0)
+      list_next l = omega (arith, inside sh p _ _ list_is r)
 
-      module _ (n : ℕ) (e : n ≡ a.0) where
+      module _ (n : ℕ) (e : n ≡ a.value) where
         blocks : Pair (listed (copier sh) d s b q p) (block_of (copier sh) d s n q (p + 1)) (listed (copier sh) d s a q) out
-        blocks = rw e (pair_of (list_is ∙ (pair_there sh p (r.shape, r.end) _ _ (sym list_is ∙ r.told)).1) r)
+        blocks = rw e (split sh p _ _ list_is r)
 
         pub list_left : Ready (block_of (copier sh) d s n q (p + 1)) (rest 1 (set out 0 3))
         list_left = left_ready blocks
@@ -419,3 +421,15 @@ module _ (b : NonZeroPow2Usize) (g : FairBound b) (o : Option NonZeroPow2Usize) 
 
             pub list_done : Placed (listed (copier sh) d s b q p) out (back (len + 1) (back 1 (set out 0 3) x) y) next' (len' + (len + 1))
             list_done = pair_done blocks w z
+
+-- WHAT THE COPIERS TRY
+
+pub ruleset of_records = (placed_length, ready_as, placed_as, level_some, next_fits, not_nothing, product_few, product_given, record_bit, record_integer, integer_some, integer_few, record_product, sum_some, sum_few, sum_given, record_sum, list_given, record_list, payload_few, payload_given, record_payload, falls_to_parts, falls_to_list)
+
+pub ruleset of_products = (ready_some, tag_start, placed_length, ready_as, placed_as, one_given, none_is, one_is, falls_to_record, product_others, left_few, right_few, falls_left, falls_right, product_left_given, product_hopped, product_next, product_left, product_tag, product_rest)
+
+pub ruleset of_sums = (ready_some, tag_start, placed_length, ready_as, placed_as, only_given, only_is, falls_to_record, product_others, product_hopped, chosen_next, chosen_inside)
+
+pub ruleset of_blocks = (ready_some, tag_start, given_copies, block_falls, block_next, block_inside, block_right, block_total, block_done, empty_second, empty_fits, empty_placed)
+
+pub ruleset of_lists = (ready_some, tag_start, placed_length, ready_as, placed_as, one_few, two_is, falls_to_two, half_few, falls_to_block, falls_to_half, list_next, list_left, list_tag, list_rest)

@@ -4,57 +4,74 @@
 #![tactic(auto)]
 
 ghost use Rattle.std.specs.Prelude.{◌≡◌, false, ◌≤◌};
-ghost use Rattle.types.specs.Heads.{FairBound};
 ghost use Rattle.types.specs.Trees.{type_in};
 ghost use Rattle.types.specs.Steps.{Given};
 ghost use Rattle.structural.specs.Forms.{most_parts, Stands};
 ghost use Rattle.shape.specs.Forms.{Ready, Placed, Shaped};
-ghost use Rattle.rebuild.specs.declared.Parts.TheVariants.{Types};
-ghost use Rattle.rebuild.specs.Forms.{GivenParts, standing, balanced, chosen, block_of, listed};
+ghost use Rattle.types.specs.declared.forms.Parts.TheVariants.{Types};
+ghost use Rattle.rebuild.specs.Forms.{GivenParts, standing, bits_of, balanced, chosen, block_of, listed};
 ghost use Rattle.rebuild.specs.Places.{bit, passes};
 ghost use Rattle.shape_clean.specs.Copies.{copied, copier, copies};
 ghost use Rattle.types.specs.Entries.{ends};
 
-use array::{btree_split_index, tree_end};
+use array::{LEFT, PAIR, RIGHT, UNIT, btree_split_index, tree_end};
 use num::NonZeroPow2Usize;
-use rebuild::{Form, LEFT, LEVELS, PAIR, Parts, RIGHT, UNIT, after, form_of, record_at};
+use rebuild::after;
+use structural::Written;
 use told::hop;
-use types::Table;
-
-// The place after the shape that was copied, and the number of bytes.
-#[derive(Clone, Copy)]
-struct Copied {
-    next: usize,
-    len: usize,
-}
+use types::{Form, LEVELS, Parts, Table};
 
 // Writes a unit for the tree at place p, whatever it is.
-fn copy_spot(shape: &[u8], p: usize, out: &mut [u8]) -> Copied
+fn copy_spot(shape: &[u8], p: usize, out: &mut [u8]) -> Written
     requires { Ready (passes copied shape.now p) out.old }
     ensures { Placed (passes copied shape.now p) out.old out.new result.next result.len }
 {
     out[0] = UNIT;
-    Copied {
+    Written {
         next: tree_end(shape, p).unwrap_or(p),
         len: 1,
     }
 }
 
 // Copies the bit at place p.
-fn copy_bit(shape: &[u8], p: usize, out: &mut [u8]) -> Copied
+fn copy_bit(shape: &[u8], p: usize, out: &mut [u8]) -> Written
     requires { Ready (bit copied shape.now p) out.old }
     ensures { Placed (bit copied shape.now p) out.old out.new result.next result.len }
 {
-    out[0] = record_at(shape, p);
+    out[0] = shape[p];
     out[1] = UNIT;
-    Copied {
+    Written {
         next: p + 2,
         len: 2,
     }
 }
 
+// Copies the balanced product of n bits at place p.
+fn copy_bits(n: usize, shape: &[u8], p: usize, out: &mut [u8]) -> Written
+    requires le_n { (1 ≤ n) × (n ≤ 256) }
+    requires ready { Ready (bits_of (copier shape.now) n p) out.old }
+    ensures { Placed (bits_of (copier shape.now) n p) out.old out.new result.next result.len }
+{
+    if n == 1 {
+        return copy_bit(shape, p, out);
+    }
+    out[0] = PAIR;
+    let few = btree_split_index(n);
+    let left = copy_bits(few, shape, p + 1, &mut out[1..]);
+    let k = left.len + 1;
+    let right = copy_bits(n - few, shape, left.next, &mut out[k..]);
+    Written {
+        next: right.next,
+        len: right.len + k,
+    }
+}
+
 // Copies what stands at record `at`, a type or a Variant's payload, with `level` levels from there on.
+// The walk goes the way of `rebuild::read_record`, and is no instance of one walk with it: there each record is tested, and what was read is added up or nothing is answered;
+// here all is known to stand there, and each record is written into the rest of the buffer behind the last. But for the calls of `hop` and `after` the two do nothing alike.
+// A shape with its place, and parts with their number, stay parameters, as there.
 #[cycle(copy_block_copy_list_copy_product_copy_record_copy_sum)]
+#[tactic(auto, using(crate::proofs::Steps::of_records))]
 fn copy_record(
     table: &Table<'_>,
     at: usize,
@@ -62,22 +79,27 @@ fn copy_record(
     shape: &[u8],
     p: usize,
     out: &mut [u8],
-) -> Copied
+) -> Written
     requires stands { Stands level table.now.ty.now (ends table.now.entries.now) at }
     requires ready { Ready (standing (copier shape.now) level table.now.ty.now at p) out.old }
     ensures { Placed (standing (copier shape.now) level table.now.ty.now at p) out.old out.new result.next result.len }
 {
-    match form_of(table.head(at)) {
-        Form::Refused => Copied { next: p, len: 0 },
-        Form::Product(parts, n) => copy_product(table, at + 1, level - 1, n, parts, shape, p, out),
-        Form::Sum(n) => copy_sum(table, at + 1, level - 1, n, shape, p, out),
-        Form::List(bound) => copy_list(table, at + 1, level - 1, bound, shape, p, out),
-        Form::Payload(n) => copy_product(table, at + 1, level - 1, n, Parts::Types, shape, p, out),
+    let first = at + 1;
+    let below = level - 1;
+    match table.head(at).form() {
+        Form::Nothing => Written { next: p, len: 0 },
+        Form::Bit => copy_bit(shape, p, out),
+        Form::Integer(w) => copy_bits(w, shape, p, out),
+        Form::Product(parts, n) => copy_product(table, first, below, n, parts, shape, p, out),
+        Form::Sum(n) => copy_sum(table, first, below, n, shape, p, out),
+        Form::List(bound) => copy_list(table, first, below, bound, shape, p, out),
+        Form::Payload(n) => copy_product(table, first, below, n, Parts::Types, shape, p, out),
     }
 }
 
 // Copies the balanced product of the n parts from record `at` on; of none, a unit stands for any tree.
 #[cycle(copy_block_copy_list_copy_product_copy_record_copy_sum)]
+#[tactic(auto, using(crate::proofs::Steps::of_products))]
 fn copy_product(
     table: &Table<'_>,
     at: usize,
@@ -87,47 +109,44 @@ fn copy_product(
     shape: &[u8],
     p: usize,
     out: &mut [u8],
-) -> Copied
+) -> Written
     requires n_le_most_parts { n ≤ most_parts }
     requires given_parts { GivenParts parts level table.now.ty.now (ends table.now.entries.now) n at }
     requires ready { Ready (balanced (copier shape.now) parts level table.now.ty.now (ends table.now.entries.now) n at p) out.old }
     ensures { Placed (balanced (copier shape.now) parts level table.now.ty.now (ends table.now.entries.now) n at p) out.old out.new result.next result.len }
 {
-    if n == 0 {
-        return copy_spot(shape, p, out);
-    }
-    if n == 1 {
-        // here and not in a function of its own, which would be inlined with slices of its own: the stack's frame stays small
-        return match parts {
-            Parts::Bits => copy_bit(shape, p, out),
-            Parts::Copies | Parts::Types => copy_record(table, at, level, shape, p, out),
-        };
-    }
-    out[0] = PAIR;
-    let few = btree_split_index(n);
-    let others = n - few;
-    // both sides answer into one local, which keeps the stack's frame small
-    let mut side = copy_product(table, at, level, few, parts, shape, p + 1, &mut out[1..]);
-    let k = side.len + 1;
-    let rest = after(table, at, few, parts);
-    side = copy_product(
-        table,
-        rest,
-        level,
-        others,
-        parts,
-        shape,
-        side.next,
-        &mut out[k..],
-    );
-    Copied {
-        next: side.next,
-        len: side.len + k,
+    match n {
+        0 => copy_spot(shape, p, out),
+        1 => copy_record(table, at, level, shape, p, out),
+        _ => {
+            out[0] = PAIR;
+            let few = btree_split_index(n);
+            let others = n - few;
+            // both sides answer into one local, which keeps the stack's frame small
+            let mut side = copy_product(table, at, level, few, parts, shape, p + 1, &mut out[1..]);
+            let k = side.len + 1;
+            let rest = after(table, at, few, parts);
+            side = copy_product(
+                table,
+                rest,
+                level,
+                others,
+                parts,
+                shape,
+                side.next,
+                &mut out[k..],
+            );
+            Written {
+                next: side.next,
+                len: side.len + k,
+            }
+        }
     }
 }
 
 // Copies the lefts and rights of a balanced sum of the n records from `at` on, and the one that they lead to.
 #[cycle(copy_block_copy_list_copy_product_copy_record_copy_sum)]
+#[tactic(auto, using(crate::proofs::Steps::of_sums))]
 fn copy_sum(
     table: &Table<'_>,
     at: usize,
@@ -136,7 +155,7 @@ fn copy_sum(
     shape: &[u8],
     p: usize,
     out: &mut [u8],
-) -> Copied
+) -> Written
     requires le_n { (1 ≤ n) × (n ≤ most_parts) }
     requires given_parts { GivenParts Types level table.now.ty.now (ends table.now.entries.now) n at }
     requires ready { Ready (chosen (copier shape.now) level table.now.ty.now (ends table.now.entries.now) n at p) out.old }
@@ -146,33 +165,23 @@ fn copy_sum(
         return copy_record(table, at, level, shape, p, out);
     }
     let few = btree_split_index(n);
-    if record_at(shape, p) == LEFT {
-        out[0] = LEFT;
-        let first = copy_sum(table, at, level, few, shape, p + 1, &mut out[1..]);
-        return Copied {
-            next: first.next,
-            len: first.len + 1,
-        };
-    }
-    out[0] = RIGHT;
-    let others = n - few;
-    let second = copy_sum(
-        table,
-        hop(table, at, few),
-        level,
-        others,
-        shape,
-        p + 1,
-        &mut out[1..],
-    );
-    Copied {
-        next: second.next,
-        len: second.len + 1,
+    let tag = shape[p];
+    out[0] = tag;
+    let (place, count) = if tag == LEFT {
+        (at, few)
+    } else {
+        (hop(table, at, few), n - few)
+    };
+    let side = copy_sum(table, place, level, count, shape, p + 1, &mut out[1..]);
+    Written {
+        next: side.next,
+        len: side.len + 1,
     }
 }
 
 // Copies a block of n of the type at record `at`.
 #[cycle(copy_block_copy_list_copy_product_copy_record_copy_sum)]
+#[tactic(auto, using(crate::proofs::Steps::of_blocks))]
 fn copy_block(
     table: &Table<'_>,
     at: usize,
@@ -181,16 +190,16 @@ fn copy_block(
     shape: &[u8],
     p: usize,
     out: &mut [u8],
-) -> Copied
+) -> Written
     requires n_le_most_parts { n ≤ most_parts }
     requires stands { Stands level table.now.ty.now (ends table.now.entries.now) at }
     requires ready { Ready (block_of (copier shape.now) level table.now.ty.now n at p) out.old }
     ensures { Placed (block_of (copier shape.now) level table.now.ty.now n at p) out.old out.new result.next result.len }
 {
-    if record_at(shape, p) == LEFT {
+    if shape[p] == LEFT {
         out[0] = LEFT;
         out[1] = UNIT;
-        return Copied {
+        return Written {
             next: p + 2,
             len: 2,
         };
@@ -206,7 +215,7 @@ fn copy_block(
         p + 1,
         &mut out[1..],
     );
-    Copied {
+    Written {
         next: all.next,
         len: all.len + 1,
     }
@@ -214,6 +223,7 @@ fn copy_block(
 
 // Copies a list with the bound: with the bound 2 a block of 1, else a pair of a block of half the bound and a list with that bound.
 #[cycle(copy_block_copy_list_copy_product_copy_record_copy_sum)]
+#[tactic(auto, using(crate::proofs::Steps::of_lists))]
 fn copy_list(
     table: &Table<'_>,
     at: usize,
@@ -222,8 +232,7 @@ fn copy_list(
     shape: &[u8],
     p: usize,
     out: &mut [u8],
-) -> Copied
-    requires fair_bound { FairBound bound }
+) -> Written
     requires stands { Stands level table.now.ty.now (ends table.now.entries.now) at }
     requires ready { Ready (listed (copier shape.now) level table.now.ty.now bound at p) out.old }
     ensures { Placed (listed (copier shape.now) level table.now.ty.now bound at p) out.old out.new result.next result.len }
@@ -236,7 +245,7 @@ fn copy_list(
             let mut block = copy_block(table, at, level, half.get(), shape, p + 1, &mut out[1..]);
             let k = block.len + 1;
             block = copy_list(table, at, level, half, shape, block.next, &mut out[k..]);
-            Copied {
+            Written {
                 next: block.next,
                 len: block.len + k,
             }

@@ -1,6 +1,7 @@
 -- The steps of the writers, in the form in which the code's needs ask them.
 use mathlib.Core.Path.{◌≡◌, refl, sym, ◌∙◌}
 use mathlib.Core.Bool.{true}
+use mathlib.Core.Logic.{inl, inr}
 use mathlib.Core.List.{List, [], ◌∷◌}
 use Prim.Native.Nat.{ℕ, ◌+◌, ◌-◌, ◌^◌, ◌≤◌, ◌<◌}
 use native.Mathlib.Omega.{arith}
@@ -13,9 +14,9 @@ use Rattle.structural.specs.declared.Parts.{Parts}
 use Rattle.structural.specs.declared.Parts.TheVariants.{Bits, Copies, Types, Choices}
 use Rattle.structural.specs.declared.Written.{Written}
 use Rattle.structural.specs.Writing.{Wrote}
-use Rattle.structural.specs.Forms.{Room, all_same, standing, Stands, part, after, skip, balanced, GivenPart, Placed, block_of}
+use Rattle.structural.specs.Forms.{Room, all_same, standing, part, after, skip, balanced, GivenPart, Placed, block_of}
 use Rattle.structural.proofs.Laws.Writing.{rest, back, wrote_none, wrote_set, wrote_length, wrote_room, wrote_lent}
-use Rattle.structural.proofs.Laws.Trees.{skip_same, balanced_none, balanced_one}
+use Rattle.structural.proofs.Laws.Trees.{room_some, skip_same, balanced_none, balanced_one}
 use Rattle.structural.proofs.Laws.Forms.{stands_end}
 use Rattle.structural.proofs.Laws.Parts.{Told, InRow, told_is, part_given, sides_next}
 
@@ -34,19 +35,15 @@ module _ (k : Parts) (d : ℕ) (s : List ℕ) (p : ℕ) where
   unfolding part after
   copy_placed e w = rw e (record { next = refl; wrote = w })
 
-row_placed : (k : Parts) {d : ℕ} {s E : List ℕ} {p : ℕ} → InRow k → Stands d s E p → {out o : List ℕ} {r : ℕ} → Wrote (type_records (standing d s p)) out o r → Placed (part k d s p) (after k d s p) out o (record { next = get_or E p 0; len = r })
-unfolding part after
-row_placed Bits t g w = absurd t
-row_placed Copies t g w = absurd t
-row_placed Types t g w = record { next = stands_end g; wrote = w }
-row_placed Choices t g w = record { next = stands_end g; wrote = w }
-
 module _ (j k : Parts) (d : ℕ) (s E : List ℕ) (p : ℕ) (e : k ≡ j) where
   pub part_room : (out : List ℕ) → Room (part k d s p) out → Told j → Room (standing d s p) out
   part_room out r t = rw (← told_is j d s p t, ← e) r
 
-  pub part_placed : {out o : List ℕ} {r : ℕ} → Told j → InRow j → GivenPart k d s E p → Wrote (type_records (standing d s p)) out o r → Placed (part k d s p) (after k d s p) out o (record { next = get_or E p 0; len = r })
-  part_placed t i g w = rw e (row_placed j i (part_given j k d s E p e t g) w)
+-- a part that stands in a row
+pub row_placed : (k : Parts) (d : ℕ) (s E : List ℕ) (p : ℕ) → InRow k → GivenPart k d s E p → {out o : List ℕ} {r : ℕ} → Wrote (type_records (standing d s p)) out o r → Placed (part k d s p) (after k d s p) out o (record { next = get_or E p 0; len = r })
+unfolding part after
+row_placed k d s E p (inl e) g w = let g' = part_given Types k d s E p e tt g in rw e (record { next = stands_end g'; wrote = w })
+row_placed k d s E p (inr e) g w = let g' = part_given Choices k d s E p e tt g in rw e (record { next = stands_end g'; wrote = w })
 
 -- BLOCKS
 
@@ -81,12 +78,11 @@ module _ (d : ℕ) (s : List ℕ) (n p : ℕ) (out : List ℕ) (r : Room (block_
 -- TREES
 
 module _ (k : Parts) (d : ℕ) (s : List ℕ) (n p : ℕ) (out : List ℕ) where
-  pub none_room : Room (balanced k d s n p) out → n ≡ 0 → Room 𝟙 out
-  none_room r z = rw (← balanced_none k d s p, ← z) r
-
-  pub none_placed : {o : List ℕ} {r : ℕ} → n ≡ 0 → Wrote (type_records 𝟙) out o r → Placed (balanced k d s n p) (skip k d s n p) out o (record { next = p; len = r })
-  unfolding skip
-  none_placed z w = rw z (record { next = refl; wrote = rw (balanced_none k d s p) w })
+  pub none_placed : Room (balanced k d s n p) out → n ≡ 0 → Placed (balanced k d s n p) (skip k d s n p) out (set out 0 0) (record { next = p; len = 1 })
+  unfolding skip type_records
+  none_placed r z =
+      let i : 0 < length out = room_some _ out r in
+      rw z (record { next = refl; wrote = rw (balanced_none k d s p) (wrote_set (wrote_none out) 0 i) })
 
   pub one_room : Room (balanced k d s n p) out → n ≡ 1 → Room (part k d s p) out
   one_room r z = rw (← balanced_one k d s p, ← z) r

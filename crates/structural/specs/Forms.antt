@@ -1,14 +1,17 @@
 -- The lowered type of what stands at a record, part by part (01, 'Lowered type'): a balanced tree of parts, or a list.
 use Rattle.std.specs.Prelude.{◌≡◌, List, [], ◌∷◌, Bool, true, false, ℕ, zero, suc, ◌-◌, ◌≤◌, ◌<◌, length}
 use Rattle.num.specs.declared.NonZeroPow2Usize.{NonZeroPow2Usize}
-use Rattle.num.specs.Powers.{bound, bound_log2}
+use Rattle.num.specs.Powers.{bound_log2}
 use Rattle.model.specs.Balanced.{btree, fold}
 use Rattle.model.specs.Structural.{SType, 𝟙, ◌⊕◌, ◌⊗◌, partition_type, type_records}
 use Rattle.types.specs.declared.Head.{Head}
-use Rattle.types.specs.declared.Head.TheVariants.{Missing, Faulty, Never, Boolean, UInt, Either, Opt, Tuple, Array, Listed, Variants, Payload}
 use Rattle.types.specs.declared.Rec.{Rec}
 use Rattle.types.specs.declared.Rec.TheVariants.{Gone, Wrong, Enum, Variant}
 use Rattle.types.specs.declared.Rec.TheVariants as rec
+use Rattle.types.specs.declared.forms.Form as said
+use Rattle.types.specs.declared.forms.Form.TheVariants as kind
+use Rattle.types.specs.declared.forms.Parts.TheVariants as parts
+use Rattle.types.specs.Forms as types
 use Rattle.types.specs.Record.{rec_at}
 use Rattle.types.specs.Walks.{walk}
 use Rattle.types.specs.Trees.{end_of}
@@ -29,20 +32,20 @@ most_parts = 65536
 abbrev pub Room : SType → List ℕ → Type 0
 Room t out = length (type_records t) ≤ length out
 
--- the form of what a record says; the tree of no parts is a unit
+-- what a record's form lowers to; the tree of no parts is a unit
+abbrev pub lowered_form : said.Form → Form
+lowered_form kind.Nothing = form.Tree Types 0
+lowered_form kind.Bit = form.Tree Bits 1
+lowered_form (kind.Integer n) = form.Tree Bits n
+lowered_form (kind.Product parts.Types n) = form.Tree Types n
+lowered_form (kind.Product parts.Copies n) = form.Tree Copies n
+lowered_form (kind.Sum n) = form.Tree Choices n
+lowered_form (kind.List b) = form.List b
+lowered_form (kind.Payload n) = form.Tree Types n
+
+-- the form of what a record says
 abbrev pub form_of : Head → Form
-form_of Missing = form.Tree Types 0
-form_of Faulty = form.Tree Types 0
-form_of Never = form.Tree Types 0
-form_of Boolean = form.Tree Bits 1
-form_of (UInt w) = form.Tree Bits w.0
-form_of Either = form.Tree Choices 2
-form_of Opt = form.List (bound 2)
-form_of (Tuple n) = form.Tree Types n
-form_of (Array n) = form.Tree Copies n
-form_of (Listed b) = form.List b
-form_of (Variants n) = form.Tree Choices n
-form_of (Payload n) = form.Tree Types n
+form_of h = lowered_form (types.form_of h)
 
 -- the record is a Variant's
 abbrev pub is_variant : Rec → Bool
@@ -139,4 +142,4 @@ block_of d s n p = 𝟙 ⊕ balanced Copies d s n p
 
 -- the list with the bound of what stands at p
 unfoldable pub listed : ℕ → List ℕ → NonZeroPow2Usize → ℕ → SType
-listed d s b p = partition_type (bound_log2 b.0 - 1) (standing d s p)
+listed d s b p = partition_type (bound_log2 b.value - 1) (standing d s p)

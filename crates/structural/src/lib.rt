@@ -4,7 +4,6 @@
 
 ghost use Rattle.std.specs.Prelude.{◌≡◌, false, ◌++◌, ◌+◌, ◌≤◌, length, take};
 ghost use Rattle.model.specs.Structural.{𝟙, ◌⊕◌, type_records};
-ghost use Rattle.types.specs.Heads.{FairBound};
 ghost use Rattle.types.specs.Steps.{Given};
 ghost use Rattle.types.specs.Lows.{low};
 ghost use Rattle.structural.specs.Writing.{Wrote};
@@ -15,7 +14,7 @@ use array::btree_split_index;
 use num::NonZeroPow2Usize;
 use types::{Head, Table};
 
-// The records of a lowered type.
+// The records of a lowered type. They are bytes and no enum: they are written here, and nothing reads them as records again.
 const UNIT: u8 = 0;
 
 const SUM: u8 = 1;
@@ -23,6 +22,7 @@ const SUM: u8 = 1;
 const PRODUCT: u8 = 2;
 
 // What the parts of a balanced tree are, and where they stand in the type file.
+// They are `types::Parts` and two more: a value has no bits and no choices side by side, and its lowered type has.
 #[derive(Clone, Copy)]
 pub enum Parts {
     // the bits of an integer, all of them told by its one record
@@ -36,64 +36,60 @@ pub enum Parts {
 }
 
 // What a record's lowered type is: a balanced tree of so many parts, or a list.
+// It is no `types::Form`: bits, products, sums and payloads are all one tree here, and one function writes it.
 #[derive(Clone, Copy)]
 pub enum Form {
     Tree(Parts, usize),
     List(NonZeroPow2Usize),
 }
 
-// The record after the parts that were written, and the number of bytes.
+// The place after what was written, in the file it was read from, and the number of bytes.
 #[derive(Clone, Copy)]
-struct Written {
-    next: usize,
-    len: usize,
+pub struct Written {
+    pub next: usize,
+    pub len: usize,
 }
 
 // The form of what a record says; a unit, the tree of no parts, for a Never and where there is no type.
+#[tactic(auto, unfolding(crate::specs::Forms::form_of))]
 pub fn form_of(h: Head) -> Form
     ensures { result ≡ form_of h }
 {
-    match h {
-        Head::Missing => Form::Tree(Parts::Types, 0),
-        Head::Faulty => Form::Tree(Parts::Types, 0),
-        Head::Never => Form::Tree(Parts::Types, 0),
-        Head::Boolean => Form::Tree(Parts::Bits, 1),
-        Head::UInt(w) => Form::Tree(Parts::Bits, w.get()),
-        Head::Either => Form::Tree(Parts::Choices, 2),
-        Head::Opt => Form::List(NonZeroPow2Usize::TWO),
-        Head::Tuple(n) => Form::Tree(Parts::Types, n),
-        Head::Array(n) => Form::Tree(Parts::Copies, n),
-        Head::Listed(b) => Form::List(b),
-        Head::Variants(n) => Form::Tree(Parts::Choices, n),
-        Head::Payload(n) => Form::Tree(Parts::Types, n),
+    match h.form() {
+        types::Form::Nothing => Form::Tree(Parts::Types, 0),
+        types::Form::Bit => Form::Tree(Parts::Bits, 1),
+        types::Form::Integer(n) => Form::Tree(Parts::Bits, n),
+        types::Form::Product(types::Parts::Copies, n) => Form::Tree(Parts::Copies, n),
+        types::Form::Product(types::Parts::Types, n) | types::Form::Payload(n) => Form::Tree(
+            Parts::Types,
+            n,
+        ),
+        types::Form::Sum(n) => Form::Tree(Parts::Choices, n),
+        types::Form::List(bound) => Form::List(bound),
     }
 }
 
-// The record that joins the two sides of a tree.
-fn joint(parts: Parts) -> u8
-    ensures { result ≡ joint_of parts }
-{
-    match parts {
-        Parts::Bits => PRODUCT,
-        Parts::Copies => PRODUCT,
-        Parts::Types => PRODUCT,
-        Parts::Choices => SUM,
+impl Parts {
+    // The record that joins the two sides of a tree.
+    fn joint(self) -> u8
+        ensures { result ≡ joint_of self }
+    {
+        match self {
+            Parts::Bits | Parts::Copies | Parts::Types => PRODUCT,
+            Parts::Choices => SUM,
+        }
     }
-}
 
-// Are the parts all the same?
-pub fn are_same(parts: Parts) -> bool
-    ensures { result ≡ all_same parts }
-{
-    match parts {
-        Parts::Bits => true,
-        Parts::Copies => true,
-        Parts::Types => false,
-        Parts::Choices => false,
+    // Are the parts all the same?
+    pub fn are_same(self) -> bool
+        ensures { result ≡ all_same self }
+    {
+        matches!(self, Parts::Bits | Parts::Copies)
     }
 }
 
 // Writes the first `len` bytes once more behind them, and answers the length of both.
+// Byte by byte, since the library's copy would want `memmove` from outside, where the static library wants `memset` alone.
 fn repeat(out: &mut [u8], len: usize) -> usize
     requires { len + len ≤ length out.old }
     ensures { Wrote (take len out.old ++ take len out.old) out.old out.new result }
@@ -104,16 +100,8 @@ fn repeat(out: &mut [u8], len: usize) -> usize
     len + len
 }
 
-// Writes a unit, and answers its one byte.
-fn write_unit(out: &mut [u8]) -> usize
-    requires { Room 𝟙 out.old }
-    ensures { Wrote (type_records 𝟙) out.old out.new result }
-{
-    out[0] = UNIT;
-    1
-}
-
 // Writes a bit, a sum of two units, and answers its three bytes.
+#[tactic(auto, unfolding(model::specs::Structural::type_records))]
 fn write_bit(out: &mut [u8]) -> usize
     requires { Room (𝟙 ⊕ 𝟙) out.old }
     ensures { Wrote (type_records (𝟙 ⊕ 𝟙)) out.old out.new result }
@@ -125,6 +113,8 @@ fn write_bit(out: &mut [u8]) -> usize
 }
 
 // Writes what stands at record `at`, a type or a Variant's payload, with `level` levels from there on, and answers the length.
+// One walk for this and `room`'s over a trait was tried as far as its clauses and measures: a trait of six methods, four ghost members and at least five laws, and two impls of it, are more than the four functions that `room` saves, and `room` would look at a list's element once for each block, where it looks once.
+// `Stands`, `GivenPart`, `GivenParts` and `Room` are asked at another place, or of another type, at each call, so a struct that carries them would be built, and its field proved, anew each time (`at` and `level` in a struct: docs/DECISIONS.md).
 #[cycle(write_block_write_list_write_part_write_record_write_tree)]
 fn write_record(table: &Table<'_>, at: usize, level: usize, out: &mut [u8]) -> usize
     requires stands { Stands level table.now.ty.now (ends table.now.entries.now) at }
@@ -153,11 +143,7 @@ fn write_part(table: &Table<'_>, at: usize, level: usize, parts: Parts, out: &mu
             next: at,
             len: write_record(table, at, level, out),
         },
-        Parts::Types => Written {
-            next: table.end(at),
-            len: write_record(table, at, level, out),
-        },
-        Parts::Choices => Written {
+        Parts::Types | Parts::Choices => Written {
             next: table.end(at),
             len: write_record(table, at, level, out),
         },
@@ -179,20 +165,19 @@ fn write_tree(
     requires room { Room (balanced parts level table.now.ty.now n at) out.old }
     ensures { Placed (balanced parts level table.now.ty.now n at) (skip parts level table.now.ty.now n at) out.old out.new result }
 {
+    // `if`, not `match`: none and one leave early, and what is left, most of the body, stands unindented.
     if n == 0 {
-        return Written {
-            next: at,
-            len: write_unit(out),
-        };
+        out[0] = UNIT;
+        return Written { next: at, len: 1 };
     }
     if n == 1 {
         return write_part(table, at, level, parts, out);
     }
-    out[0] = joint(parts);
+    out[0] = parts.joint();
     let few = btree_split_index(n);
     let others = n - few;
     let left = write_tree(table, at, level, few, parts, &mut out[1..]);
-    if few == others && are_same(parts) {
+    if few == others && parts.are_same() {
         return Written {
             next: at,
             len: repeat(&mut out[1..], left.len) + 1,
@@ -228,7 +213,6 @@ fn write_list(
     bound: NonZeroPow2Usize,
     out: &mut [u8],
 ) -> usize
-    requires fair_bound { FairBound bound }
     requires stands { Stands level table.now.ty.now (ends table.now.entries.now) at }
     requires room { Room (listed level table.now.ty.now bound at) out.old }
     ensures { Wrote (type_records (listed level table.now.ty.now bound at)) out.old out.new result }

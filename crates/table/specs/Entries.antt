@@ -24,10 +24,9 @@ use Rattle.types.specs.Steps.{count_cases}
 use Rattle.types.specs.Unique.{bad_end, opened}
 use Rattle.types.specs.Lows.{low, lows, length_lows, lows_kids, lows_cases}
 use Rattle.table.specs.declared.Facts as facts
-use Rattle.table.specs.declared.Sum as sum
-use Rattle.table.specs.Facts.{cut, entry, sums, sum_width, product, facts_of, facts_true, Measured}
+use Rattle.table.specs.Facts.{cut, entry, cut_entry, sums, sum, sum_facts, product, facts_of, facts_true, Measured}
 use Rattle.table.specs.Rows.{first_of}
-use Rattle.table.specs.Sums.{same_facts, cut_max, entry_size, entry_width, next_place, further, sums_right, sum_right}
+use Rattle.table.specs.Sums.{same_facts, sum_true, entry_facts, entry_size, entry_width, next_place, further, sums_right, sum_right}
 use Rattle.table.specs.Right.{cut_mul, list_size, list_bits}
 
 cut_plus : (a b c : ℕ) → cut a ≡ cut b → cut (cut a + c) ≡ cut (b + c)
@@ -72,11 +71,9 @@ module _ (d : ℕ) (s E S W : List ℕ) (g : Ends s E) (p : ℕ) (m : Measured s
       let f2 = first_of d false s 0 (end_of (walk d false s p)) e f.rest in
       let n = next_place d false s E S W g p m p f.end f.walks in
       let l : p ≤ end_of (walk d false s p) = further d false s E S W g p m p f.end (omega arith) f.walks in
-      let a = entry_size d false s E S W g p m p f.end (omega arith) f.walks in
-      let b = entry_width d false s E S W g p m p f.end (omega arith) f.walks in
-      let a2 = ap (entry S) n ∙ entry_size d false s E S W g p m (end_of (walk d false s p)) f2.end l f2.walks in
-      let b2 = ap (entry W) n ∙ entry_width d false s E S W g p m (end_of (walk d false s p)) f2.end l f2.walks in
-      same_facts (ap₂ (λ x y. cut (x + y + 1)) a a2 ∙ omega arith) (ap₂ (λ x y. cut (max x y + 1)) b b2 ∙ cut_max _ _)
+      let a = entry_facts d false s E S W g p m p f.end (omega arith) f.walks in
+      let b = ap (cut_entry S W) n ∙ entry_facts d false s E S W g p m (end_of (walk d false s p)) f2.end l f2.walks in
+      ap₂ sum a b ∙ sum_true _ _
 
   one_child : (e : ℕ) → many (walk d false s) 1 p ≡ Ok e → (entry S p ≡ cut (nodes (low d false s p))) × (entry W p ≡ cut (width (low d false s p)))
   one_child e h =
@@ -86,13 +83,11 @@ module _ (d : ℕ) (s E S W : List ℕ) (g : Ends s E) (p : ℕ) (m : Measured s
   row_facts : (n e : ℕ) → many (walk d false s) n p ≡ Ok e → product (sums E S W n p 0 0) n ≡ facts_true (product_of (lows d false s n p))
   row_facts n e h = ap (λ f. product f n) (sums_right d false s E S W g p m n p e 0 0 (omega arith) h) ∙ product_counted (lows d false s n p) n (length_lows d false s n p)
 
-  sum_facts : (n e : ℕ) → 1 ≤ n → many (walk d true s) n p ≡ Ok e → ◌≡◌ {A = facts.Facts} (record { size = cut ((sums E S W n p 0 0).size + (n - 1)); width = (sum_width (btree n) E W p).width }) (facts_true (balanced_sum (btree n) (lows d true s n p)))
-  sum_facts n e o h =
-      let a = sums_right d true s E S W g p m n p e 0 0 (omega arith) h in
+  enum_facts : (n e : ℕ) → 1 ≤ n → many (walk d true s) n p ≡ Ok e → (sum_facts (btree n) E S W p).1 ≡ facts_true (balanced_sum (btree n) (lows d true s n p))
+  enum_facts n e o h =
       let lv : leaves (btree n) ≡ n = btree_leaves n o in
       let r = sum_right d true s E S W g p m (btree n) p e (omega arith) (rw lv h) in
-      let b = nodes_balanced_sum n (lows d true s n p) (length_lows d true s n p) o in
-      same_facts (ap (λ (f : facts.Facts). cut (f.size + (n - 1))) a ∙ omega arith) (ap (λ (f : sum.Sum). f.width) r.0 ∙ ap (λ k. cut (width (balanced_sum (btree n) (lows d true s k p)))) lv)
+      ap (λ (f : ℕ × facts.Facts). f.1) r.0 ∙ ap (λ k. facts_true (balanced_sum (btree n) (lows d true s k p))) lv
 
   list_facts : (b k e : ℕ) → b ≡ Prim.Native.Nat.◌^◌ 2 (suc k) → bound_log2 b ≡ suc k → many (walk d false s) 1 p ≡ Ok e
       → ◌≡◌ {A = facts.Facts} (record { size = cut (cut ((b - 1) * entry S p) + ((b - 1) + 2 * bound_log2 b - 1)); width = cut (cut ((b - 1) * entry W p) + bound_log2 b) }) (facts_true (partition_type (bound_log2 b - 1) (low d false s p)))
@@ -110,15 +105,15 @@ module _ (d : ℕ) (s E S W : List ℕ) (g : Ends s E) (p : ℕ) (m : Measured s
   node_facts Faulty f e h = bad_end h
   node_facts Never f e h = refl
   node_facts Boolean f e h = refl
-  node_facts (UInt w) f e h = let (x, y) = width_range w f in uint_facts w.0 x y
+  node_facts (UInt w) f e h = let (x, y) = width_range w in uint_facts w.value x y
   node_facts Either f e h = either_facts e h
   node_facts Opt f e h = let (a, b) = one_child e h in same_facts (ap (λ x. cut (x + 2)) a ∙ omega arith) (ap (λ x. cut (x + 1)) b ∙ omega arith)
   node_facts (Tuple n) f e h = row_facts n e h ∙ ap (λ l. facts_true (product_of l)) (sym (lows_kids d s n p))
   node_facts (Array n) f e h = let (a, b) = one_child e h in ap₂ (λ x y. product (record { size = cut (n * x); width = cut (n * y) }) n) a b ∙ array_of n (low d false s p)
-  node_facts (Listed b) f e h = let x = bounded b.0 f.exponent f.admitted in list_facts b.0 f.exponent e x.power x.log2 h
+  node_facts (Listed b) f e h = let x = bounded b.value f.exponent f.admitted in list_facts b.value f.exponent e x.power x.log2 h
   node_facts (Variants n) f e h =
       let z : suc (n - 1) ≡ n = let k = f.0 in omega arith in
-      sum_facts n e f.0 h
+      enum_facts n e f.0 h
       ∙ sym (ap₂ (λ k l. facts_true (balanced_sum (btree k) l)) (count_cases (treev d s) (walk d true s) (n - 1) p ∙ z) (lows_cases d s (n - 1) p ∙ ap (λ k. lows d true s k p) z))
   node_facts (Payload n) f e h = bad_end h
 

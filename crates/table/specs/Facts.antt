@@ -11,7 +11,6 @@ use Rattle.model.proofs.Laws.Sizes.{nodes}
 use Rattle.types.specs.Walks.{walk}
 use Rattle.types.specs.Lows.{low}
 use Rattle.table.specs.declared.Facts as facts
-use Rattle.table.specs.declared.Sum as sum
 
 -- one more than a lowered type may have
 abbrev pub limit : ℕ
@@ -24,18 +23,26 @@ cut n = min n limit
 abbrev pub entry : List ℕ → ℕ → ℕ
 entry column i = cut (get_or column i 0)
 
+-- the size and the width of record i, cut
+abbrev pub cut_entry : List ℕ → List ℕ → ℕ → facts.Facts
+cut_entry S W i = record { size = entry S i; width = entry W i }
+
 -- the entries of n records one after the other, added up
 unfoldable pub sums : List ℕ → List ℕ → List ℕ → ℕ → ℕ → ℕ → ℕ → facts.Facts
 sums E S W zero p a b = record { size = a; width = b }
 sums E S W (suc n) p a b = sums E S W n (get_or E p 0) (cut (a + entry S p)) (cut (b + entry W p))
 
--- the width of a balanced sum of what stands one after the other
-unfoldable pub sum_width : BTree → List ℕ → List ℕ → ℕ → sum.Sum
-sum_width leaf E W p = record { next = get_or E p 0; width = entry W p }
-sum_width (fork l r) E W p =
-    let x = sum_width l E W p in
-    let y = sum_width r E W x.next in
-    record { next = y.next; width = cut (max x.width y.width + 1) }
+-- of a sum of two
+abbrev pub sum : facts.Facts → facts.Facts → facts.Facts
+sum a b = record { size = cut (a.size + b.size + 1); width = cut (max a.width b.width + 1) }
+
+-- the place after what stands one after the other, and the facts of its balanced sum
+unfoldable pub sum_facts : BTree → List ℕ → List ℕ → List ℕ → ℕ → ℕ × facts.Facts
+sum_facts leaf E S W p = (get_or E p 0, cut_entry S W p)
+sum_facts (fork l r) E S W p =
+    let x = sum_facts l E S W p in
+    let y = sum_facts r E S W x.0 in
+    (y.0, sum x.1 y.1)
 
 -- of a product of n parts whose entries add up to f
 unfoldable pub product : facts.Facts → ℕ → facts.Facts
@@ -47,9 +54,7 @@ uint_facts w = record { size = 4 * w - 1; width = w }
 
 -- of an Either whose two types stand from p on
 abbrev pub either_facts : List ℕ → List ℕ → List ℕ → ℕ → facts.Facts
-either_facts E S W p =
-    let q = get_or E p 0 in
-    record { size = cut (entry S p + entry S q + 1); width = cut (max (entry W p) (entry W q) + 1) }
+either_facts E S W p = sum (cut_entry S W p) (cut_entry S W (get_or E p 0))
 
 -- of an Option whose type stands at p
 abbrev pub option_facts : List ℕ → List ℕ → ℕ → facts.Facts
@@ -68,7 +73,7 @@ list_facts S W b p =
 
 -- of an Enum whose n Variants stand from p on
 abbrev pub enum_facts : List ℕ → List ℕ → List ℕ → ℕ → ℕ → facts.Facts
-enum_facts E S W n p = record { size = cut ((sums E S W n p 0 0).size + (n - 1)); width = (sum_width (btree n) E W p).width }
+enum_facts E S W n p = (sum_facts (btree n) E S W p).1
 
 -- of a record that says this, from the entries of its children, the first of which stands at p
 unfoldable pub facts_of : Head → List ℕ → List ℕ → List ℕ → ℕ → facts.Facts
@@ -76,12 +81,12 @@ facts_of Missing E S W p = record { size = 1; width = 0 }
 facts_of Faulty E S W p = record { size = 1; width = 0 }
 facts_of Never E S W p = record { size = 1; width = 0 }
 facts_of Boolean E S W p = record { size = 3; width = 1 }
-facts_of (UInt w) E S W p = uint_facts w.0
+facts_of (UInt w) E S W p = uint_facts w.value
 facts_of Either E S W p = either_facts E S W p
 facts_of Opt E S W p = option_facts S W p
 facts_of (Tuple n) E S W p = product (sums E S W n p 0 0) n
 facts_of (Array n) E S W p = array_facts S W n p
-facts_of (Listed b) E S W p = list_facts S W b.0 p
+facts_of (Listed b) E S W p = list_facts S W b.value p
 facts_of (Variants n) E S W p = enum_facts E S W n p
 facts_of (Payload n) E S W p = product (sums E S W n p 0 0) n
 

@@ -117,7 +117,7 @@ module _ (F : Ty → Bool) (G : Tys → Bool) where
     below d ih iv Faulty p e o q = bad_end q
     below d ih iv Never p e o q = none_below (F never) p e q
     below d ih iv Boolean p e o q = none_below (F bool) p e q
-    below d ih iv (UInt w) p e o q = none_below (F (uint w.0)) p e q
+    below d ih iv (UInt w) p e o q = none_below (F (uint w.value)) p e q
     below d ih iv Either p e o q = rw (kids_flagged d ih 2 p e q, or_false (anywhere (tree d s (end_of (walk d false s p))))) refl
     below d ih iv Opt p e o q = rw (kids_flagged d ih 1 p e q, or_false (anywhere (tree d s p))) refl
     below d ih iv (Tuple n) p e o q = rw (kids_flagged d ih n p e q) refl

@@ -1,5 +1,6 @@
 -- The entries of a type file's table as the code computes them, and that they are right of what stands at each record.
 pub mod Facts
+pub mod Hops
 pub mod Rows
 pub mod Sums
 pub mod Right

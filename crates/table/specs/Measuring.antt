@@ -1,5 +1,5 @@
 -- The loop that fills the table, from the last record to the first: what one step does, what holds between the steps, and what it comes to.
-use Rattle.std.specs.Prelude.{◌≡◌, refl, List, Bool, true, false, ◌||◌, ℕ, zero, suc, ◌+◌, ◌-◌, ◌≤◌, ◌<◌, ◌/◌, eqb, ltb, length, get_or, set, Option, Some, None, Ok}
+use Rattle.std.specs.Prelude.{◌≡◌, refl, ⊤, List, Bool, true, false, ◌||◌, ℕ, zero, suc, ◌+◌, ◌-◌, ◌≤◌, ◌<◌, ◌/◌, eqb, ltb, length, get_or, set, Option, Some, None, Result, Ok, Err}
 use Rattle.std.proofs.Common.{sym, ap, ap₂, subst, ◌∙◌, arith, length-set, get_or-set_same, get_or-set_other}
 use Rattle.std.proofs.Math.Decide.{dec_le}
 use Rattle.std.proofs.Math.Bool.{or_comm}
@@ -10,6 +10,8 @@ use Rattle.model.specs.Frames.{width}
 use Rattle.model.proofs.Laws.Sizes.{nodes}
 use Rattle.model.specs.Lowering.{has_never, over_large}
 use Rattle.num.specs.Powers.{bound_of, width_of}
+use Rattle.reply.specs.declared.Refusal.{Refusal}
+use Rattle.reply.specs.declared.Refusal.TheVariants.{NeverStands, TooLarge}
 use Rattle.types.specs.declared.Head.{Head}
 use Rattle.types.specs.declared.Head.TheVariants.{Missing, Faulty, Never, Boolean, UInt, Either, Opt, Tuple, Array, Listed, Variants, Payload}
 use Rattle.types.specs.Record.{by_width, by_bound, head_of, head_at}
@@ -21,7 +23,6 @@ use Rattle.types.specs.Lows.{low}
 use Rattle.types.specs.Accepted.{ends_whole}
 use Rattle.types.specs.Unique.{inside}
 use Rattle.table.specs.declared.Facts as facts
-use Rattle.table.specs.declared.Flags as flags
 use Rattle.table.specs.Facts.{cut, facts_of, facts_true, Measured}
 use Rattle.table.specs.Entries.{facts_right}
 use Rattle.table.specs.Flags.{flagged}
@@ -36,35 +37,27 @@ pub record Measurable (s E S W : List ℕ) (n : ℕ) : Type 0 where
   pub sizes : n ≤ length S
   pub widths : n ≤ length W
 
+-- row 6, or else row 7
+abbrev pub verdict : Bool → Bool → Result ⊤ Refusal
+verdict never large = pick never (Err NeverStands) (pick large (Err TooLarge) (Ok tt))
+
 -- what it comes to: each entry right, and rows 6 and 7
-pub record Measures (s : List ℕ) (r : flags.Flags) (S W : List ℕ) : Type 0 where
+pub record Measures (s : List ℕ) (r : Result ⊤ Refusal) (S W : List ℕ) : Type 0 where
   pub measured : Measured s S W 0
-  pub never : r.never ≡ has_never (tree 32 s 0)
-  pub large : r.large ≡ over_large (tree 32 s 0)
+  pub answer : r ≡ verdict (has_never (tree 32 s 0)) (over_large (tree 32 s 0))
 
--- the facts of record i by the columns
-abbrev pub facts_at : List ℕ → List ℕ → List ℕ → List ℕ → ℕ → facts.Facts
-facts_at s E S W i = facts_of (head_at s i) E S W (i + 1)
+-- record i, which says h, has been put down, with this size
+pub record Entered (h : Head) (E : List ℕ) (i : ℕ) (S W : List ℕ) (r : ℕ) (S' W' : List ℕ) : Type 0 where
+  pub size : r ≡ (facts_of h E S W (i + 1)).size
+  pub sizes : S' ≡ set S i (facts_of h E S W (i + 1)).size
+  pub widths : W' ≡ set W i (facts_of h E S W (i + 1)).width
 
--- record i has been put down
-pub record Entered (s E : List ℕ) (i : ℕ) (S W : List ℕ) (r : flags.Flags) (S' W' : List ℕ) : Type 0 where
-  pub never : r.never ≡ never_at s i
-  pub large : r.large ≡ ltb most_shape_records (facts_at s E S W i).size
-  pub fair : Fair (head_at s i)
-  pub sizes : S' ≡ set S i (facts_at s E S W i).size
-  pub widths : W' ≡ set W i (facts_at s E S W i).width
-
-pub entered : (s E S W : List ℕ) (i : ℕ) (h : Head) (f : facts.Facts) (x y : Bool) → h ≡ head_at s i → Fair h → f ≡ facts_of h E S W (i + 1) → x ≡ is_never h → y ≡ ltb most_shape_records f.size → Entered s E i S W (record { never = x; large = y }) (set S i f.size) (set W i f.width)
-unfolding never_at
-entered s E S W i h f x y eh fh ef ex ey =
-    let same : f ≡ facts_at s E S W i = ef ∙ ap (λ h. facts_of h E S W (i + 1)) eh in
-    record {
-      never = ex ∙ ap is_never eh;
-      large = ey ∙ ap (λ (f : facts.Facts). ltb most_shape_records f.size) same;
-      fair = subst Fair eh fh;
-      sizes = ap (λ (f : facts.Facts). set S i f.size) same;
-      widths = ap (λ (f : facts.Facts). set W i f.width) same;
-    }
+pub entered : (E S W : List ℕ) (i : ℕ) (h : Head) (f : facts.Facts) → f ≡ facts_of h E S W (i + 1) → Entered h E i S W f.size (set S i f.size) (set W i f.width)
+entered E S W i h f e = record {
+  size = ap (λ (f : facts.Facts). f.size) e;
+  sizes = ap (λ (f : facts.Facts). set S i f.size) e;
+  widths = ap (λ (f : facts.Facts). set W i f.width) e;
+}
 
 -- BETWEEN THE STEPS: the records from i on are put down
 
@@ -100,10 +93,10 @@ unfolding flagged
 flagged_first f p n h = let z : n - p ≡ suc (n - (p + 1)) = omega arith in ap (flagged f p) z
 
 -- one more record, at place i
-filling_at : (s E S W S' W' : List ℕ) (n i : ℕ) (x y x' y' : Bool) (r : flags.Flags) → Filling s E n (i + 1) x y S W → Entered s E i S W r S' W' → x' ≡ r.never || x → y' ≡ r.large || y → Filling s E n i x' y' S' W'
-unfolding large_at
-filling_at s E S W S' W' n i x y x' y' r g t ex ey =
-    let f = facts_at s E S W i in
+filling_at : (s E S W S' W' : List ℕ) (n i : ℕ) (x y x' y' : Bool) (h : Head) (r : ℕ) → Filling s E n (i + 1) x y S W → (h ≡ head_at s i) × Fair h → Entered h E i S W r S' W' → x' ≡ is_never h || x → y' ≡ ltb most_shape_records r || y → Filling s E n i x' y' S' W'
+unfolding large_at never_at
+filling_at s E S W S' W' n i x y x' y' h r g k t ex ey =
+    let f = facts_of h E S W (i + 1) in
     let l : i < length S = let a = g.within in let b = g.given.sizes in omega arith in
     let m : i < length W = let a = g.within in let b = g.given.widths in omega arith in
     let sl : length S' ≡ length S = ap length t.sizes ∙ length-set S i f.size in
@@ -112,7 +105,7 @@ filling_at s E S W S' W' n i x y x' y' r g t ex ey =
     let here_width : get_or W' i 0 ≡ f.width = ap (λ l. get_or l i 0) t.widths ∙ get_or-set_same W i f.width 0 m in
     let past_size : (j : ℕ) → i + 1 ≤ j → get_or S' j 0 ≡ get_or S j 0 = λ j h. ap (λ l. get_or l j 0) t.sizes ∙ get_or-set_other S i j f.size 0 (apart i j h) in
     let past_width : (j : ℕ) → i + 1 ≤ j → get_or W' j 0 ≡ get_or W j 0 = λ j h. ap (λ l. get_or l j 0) t.widths ∙ get_or-set_other W i j f.width 0 (apart i j h) in
-    let right : (d e : ℕ) (v : Bool) → walk d v s i ≡ Ok e → f ≡ facts_true (low d v s i) = λ d e v q. facts_right d v s E S W i e g.given.ends g.measured t.fair q in
+    let right : (d e : ℕ) (v : Bool) → walk d v s i ≡ Ok e → f ≡ facts_true (low d v s i) = λ d e v q. ap (λ h. facts_of h E S W (i + 1)) k.0 ∙ facts_right d v s E S W i e g.given.ends g.measured (subst Fair k.0 k.1) q in
     record {
       given = record { ends = g.given.ends; accepted = g.given.accepted; sizes = let b = g.given.sizes in omega arith; widths = let b = g.given.widths in omega arith };
       within = let a = g.within in omega arith;
@@ -120,8 +113,8 @@ filling_at s E S W S' W' n i x y x' y' r g t ex ey =
         size = λ j d e v h q. by_place i j (λ j. get_or S' j 0 ≡ cut (nodes (low d v s j))) h (λ k. here_size ∙ ap (λ (f : facts.Facts). f.size) (right d e v (rw k q))) (λ k. past_size j k ∙ g.measured.size j d e v k q);
         width = λ j d e v h q. by_place i j (λ j. get_or W' j 0 ≡ cut (width (low d v s j))) h (λ k. here_width ∙ ap (λ (f : facts.Facts). f.width) (right d e v (rw k q))) (λ k. past_width j k ∙ g.measured.width j d e v k q);
       };
-      never = ex ∙ ap₂ ◌||◌ t.never g.never ∙ sym (flagged_first (never_at s) i n g.within);
-      large = ey ∙ ap₂ ◌||◌ (t.large ∙ sym (ap (ltb most_shape_records) here_size)) (g.large ∙ flagged_same (large_at S) (large_at S') (i + 1) (n - (i + 1)) (λ j h. ap (ltb most_shape_records) (sym (past_size j h)))) ∙ sym (flagged_first (large_at S') i n g.within);
+      never = ex ∙ ap₂ ◌||◌ (ap is_never k.0) g.never ∙ sym (flagged_first (never_at s) i n g.within);
+      large = ey ∙ ap₂ ◌||◌ (ap (ltb most_shape_records) (t.size ∙ sym here_size)) (g.large ∙ flagged_same (large_at S) (large_at S') (i + 1) (n - (i + 1)) (λ j h. ap (ltb most_shape_records) (sym (past_size j h)))) ∙ sym (flagged_first (large_at S') i n g.within);
     }
   where
     apart : (i j : ℕ) → i + 1 ≤ j → j ≡ i → ⊥
@@ -134,10 +127,10 @@ filling_at s E S W S' W' n i x y x' y' r g t ex ey =
         go (yes k) = let e : i ≡ j = omega arith in subst P e (f e)
         go (no k) = g (omega arith)
 
-pub filling_next : {s E S W S' W' : List ℕ} {n i : ℕ} {x y : Bool} (x' y' : Bool) (r : flags.Flags) → Filling s E n i x y S W → 0 < i → Entered s E (i - 1) S W r S' W' → x' ≡ x || r.never → y' ≡ y || r.large → Filling s E n (i - 1) x' y' S' W'
-filling_next {s} {E} {S} {W} {S'} {W'} {n} {i} {x} {y} x' y' r g h t ex ey =
+pub filling_next : {s E S W S' W' : List ℕ} {n i : ℕ} {x y : Bool} (x' y' : Bool) (h : Head) (r : ℕ) → Filling s E n i x y S W → 0 < i → (h ≡ head_at s (i - 1)) × Fair h → Entered h E (i - 1) S W r S' W' → x' ≡ x || is_never h → y' ≡ y || ltb most_shape_records r → Filling s E n (i - 1) x' y' S' W'
+filling_next {s} {E} {S} {W} {S'} {W'} {n} {i} {x} {y} x' y' h r g l k t ex ey =
     let z : i ≡ (i - 1) + 1 = omega arith in
-    filling_at s E S W S' W' n (i - 1) x y x' y' r (subst (λ i. Filling s E n i x y S W) z g) t (ex ∙ or_comm x r.never) (ey ∙ or_comm y r.large)
+    filling_at s E S W S' W' n (i - 1) x y x' y' h r (subst (λ i. Filling s E n i x y S W) z g) k t (ex ∙ or_comm x (is_never h)) (ey ∙ or_comm y (ltb most_shape_records r))
 
 -- ALL OF THEM
 
@@ -188,14 +181,15 @@ pub some_variants : (s : List ℕ) (i : ℕ) → head_at s i ≡ Variants 0 → 
 unfolding head_at
 some_variants s i e = subst HasVariants e (both (ltb i (length s / 4)) _ _ (λ h. some_of _ _ _) (λ h. tt)) refl
 
-pub filling_end : {s E S W : List ℕ} {n i : ℕ} {x y : Bool} → Filling s E n i x y S W → i ≤ 0 → Measures s (record { never = x; large = y }) S W
-filling_end {s} {E} {S} {W} {n} {i} {x} {y} g h =
+pub filling_end : {s E S W : List ℕ} {n i : ℕ} {x y : Bool} (r : Result ⊤ Refusal) → Filling s E n i x y S W → i ≤ 0 → r ≡ verdict x y → Measures s r S W
+filling_end {s} {E} {S} {W} {n} {i} {x} {y} r g h v =
     let z : i ≡ 0 = omega arith in
     let a : n - i ≡ n = omega arith in
     let w = (ends_whole s n g.given.accepted).0 in
     let m : Measured s S W 0 = subst (Measured s S W) z g.measured in
     record {
       measured = m;
-      never = g.never ∙ ap₂ (flagged (never_at s)) z a ∙ never_flagged s (some_variants s) 32 n w;
-      large = g.large ∙ ap₂ (flagged (large_at S)) z a ∙ large_flagged s S W m (some_variants s) 32 n w;
+      answer = v ∙ ap₂ verdict
+          (g.never ∙ ap₂ (flagged (never_at s)) z a ∙ never_flagged s (some_variants s) 32 n w)
+          (g.large ∙ ap₂ (flagged (large_at S)) z a ∙ large_flagged s S W m (some_variants s) 32 n w);
     }

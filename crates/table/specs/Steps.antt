@@ -5,8 +5,7 @@ use Rattle.std.specs.Int.{w64}
 use Rattle.model.specs.Balanced.{BTree, leaf, fork, btree, btree_split_index, grow}
 use Rattle.model.proofs.Laws.Balanced.{btree_fork, split_bounds}
 use Rattle.table.specs.declared.Facts as facts
-use Rattle.table.specs.declared.Sum as sum
-use Rattle.table.specs.Facts.{cut, entry, sums, sum_width}
+use Rattle.table.specs.Facts.{cut, entry, cut_entry, sums, sum, sum_facts}
 
 -- ADDING UP
 
@@ -40,35 +39,34 @@ unfolding sums
 sums_small E S W zero p a b h = h
 sums_small E S W (suc n) p a b h = sums_small E S W n (get_or E p 0) (cut (a + entry S p)) (cut (b + entry W p)) (omega arith)
 
-pub sum_fits : (E S W : List ℕ) (n p : ℕ) (f : facts.Facts) → f ≡ sums E S W n p 0 0 → 1 ≤ n → n < 65536 → Fits w64 (f.size + (n - 1))
-sum_fits E S W n p f e o h = let k : f.size ≤ 65537 = rw e (sums_small E S W n p 0 0 (omega arith)) in record { fits = omega arith }
-
 pub row_small : (E S W : List ℕ) (n p : ℕ) (f : facts.Facts) → f ≡ sums E S W n p 0 0 → n < 65536 → (f.size ≤ 65537) × (n < 65536)
 row_small E S W n p f e h = (rw e (sums_small E S W n p 0 0 (omega arith)), h)
 
 -- SUMS
 
-sum_narrow : (t : BTree) (E W : List ℕ) (p : ℕ) → (sum_width t E W p).width ≤ 65537
-unfolding sum_width
-sum_narrow leaf E W p = omega arith
-sum_narrow (fork l r) E W p = omega arith
+abbrev Small : facts.Facts → Type 0
+Small f = (f.size ≤ 65537) × (f.width ≤ 65537)
 
-pub narrow_of : (n : ℕ) (E W : List ℕ) (p : ℕ) (r : sum.Sum) → r ≡ sum_width (btree n) E W p → r.width ≤ 65537
-narrow_of n E W p r e = rw e (sum_narrow (btree n) E W p)
+sum_small : (t : BTree) (E S W : List ℕ) (p : ℕ) → Small (sum_facts t E S W p).1
+unfolding sum_facts
+sum_small leaf E S W p = (omega arith, omega arith)
+sum_small (fork l r) E S W p = (omega arith, omega arith)
 
-pub sum_one : (n : ℕ) (E W : List ℕ) (p x y : ℕ) → n ≡ 1 → x ≡ get_or E p 0 → y ≡ entry W p → ◌≡◌ {A = sum.Sum} (record { next = x; width = y }) (sum_width (btree n) E W p)
-unfolding sum_width btree grow
-sum_one n E W p x y h ex ey = rw h (λ i. record { next = ex i; width = ey i })
+pub small_of : (n : ℕ) (E S W : List ℕ) (p : ℕ) (r : ℕ × facts.Facts) → r ≡ sum_facts (btree n) E S W p → (r.1.size ≤ 65537) × (r.1.width ≤ 65537)
+small_of n E S W p r e = rw e (sum_small (btree n) E S W p)
 
-pub sum_fork : (n h : ℕ) (E W : List ℕ) (p : ℕ) (l r : sum.Sum) (x w : ℕ) → 2 ≤ n → h ≡ btree_split_index n → l ≡ sum_width (btree h) E W p → r ≡ sum_width (btree (n - h)) E W l.next → x ≡ max l.width r.width → w ≡ cut (x + 1)
-    → ◌≡◌ {A = sum.Sum} (record { next = r.next; width = w }) (sum_width (btree n) E W p)
-unfolding sum_width
-sum_fork n h E W p l r x w o eh el er ex ew =
-    let second : r ≡ sum_width (btree (n - h)) E W (sum_width (btree h) E W p).next = er ∙ ap (λ (k : sum.Sum). sum_width (btree (n - h)) E W k.next) el in
-    let v : w ≡ cut (max l.width r.width + 1) = ew ∙ ap (λ k. cut (k + 1)) ex in
-    (λ i. record { next = r.next; width = v i })
-    ∙ (λ i. record { next = (second i).next; width = cut (max (el i).width (second i).width + 1) })
-    ∙ ap (λ k. sum_width (fork (btree k) (btree (n - k))) E W p) eh ∙ sym (ap (λ t. sum_width t E W p) (btree_fork n o))
+pub sum_one : (n : ℕ) (E S W : List ℕ) (p : ℕ) (r : ℕ × facts.Facts) → n ≡ 1 → r ≡ (get_or E p 0, cut_entry S W p) → r ≡ sum_facts (btree n) E S W p
+unfolding sum_facts btree grow
+sum_one n E S W p r h e = rw h e
+
+pub sum_fork : (n h : ℕ) (E S W : List ℕ) (p : ℕ) (l r : ℕ × facts.Facts) (f : facts.Facts) → 2 ≤ n → h ≡ btree_split_index n → l ≡ sum_facts (btree h) E S W p → r ≡ sum_facts (btree (n - h)) E S W l.0 → f ≡ sum l.1 r.1
+    → ◌≡◌ {A = ℕ × facts.Facts} (r.0, f) (sum_facts (btree n) E S W p)
+unfolding sum_facts
+sum_fork n h E S W p l r f o eh el er ef =
+    let second : r ≡ sum_facts (btree (n - h)) E S W (sum_facts (btree h) E S W p).0 = er ∙ ap (λ (k : ℕ × facts.Facts). sum_facts (btree (n - h)) E S W k.0) el in
+    (λ i. (r.0, ef i))
+    ∙ (λ i. ((second i).0, sum (el i).1 (second i).1))
+    ∙ ap (λ k. sum_facts (fork (btree k) (btree (n - k))) E S W p) eh ∙ sym (ap (λ t. sum_facts t E S W p) (btree_fork n o))
 
 -- the two sides of a balanced tree
 module _ (n h t : ℕ) where
@@ -83,6 +81,3 @@ module _ (n h t : ℕ) where
 
   pub share_right : n ≡ t → (n ≡ 1 → ⊥) → 1 ≤ n → n ≤ 65536 → h ≡ btree_split_index n → (n - h < t) × ((1 ≤ n - h) × (n - h ≤ 65536))
   share_right e x o m q = let b = split_bounds n (two x o) in (omega arith, (omega arith, omega arith))
-
-pub fits_larger : (x a b : ℕ) → x ≡ max a b → a ≤ 65537 → b ≤ 65537 → Fits w64 (x + 1)
-fits_larger x a b e p q = record { fits = omega arith }

@@ -3,7 +3,7 @@ use Rattle.std.specs.Prelude.{◌≡◌, List, Bool, get_or, Ok}
 use Rattle.std.proofs.Common.{sym, ap, ap₂, ◌∙◌, arith}
 use Prim.Native.Nat.{ℕ, zero, suc, ◌+◌, ◌≤◌, max}
 use Rattle.model.specs.Balanced.{BTree, leaf, fork, leaves, fold}
-use Rattle.model.specs.Structural.{balanced_sum}
+use Rattle.model.specs.Structural.{SType, ◌⊕◌, balanced_sum}
 use Rattle.model.specs.Frames.{width}
 use Rattle.model.proofs.Laws.Sizes.{nodes, nodes_all, width_all}
 use Rattle.types.specs.Walks.{many, walk}
@@ -12,8 +12,7 @@ use Rattle.types.specs.Trees.{end_of}
 use Rattle.types.specs.Runs.{up}
 use Rattle.types.specs.Lows.{low, lows}
 use Rattle.table.specs.declared.Facts as facts
-use Rattle.table.specs.declared.Sum as sum
-use Rattle.table.specs.Facts.{cut, entry, sums, sum_width, Measured}
+use Rattle.table.specs.Facts.{cut, entry, cut_entry, sums, sum, sum_facts, facts_true, Measured}
 use Rattle.table.specs.Rows.{skip, skip_add, take_lows, drop_lows, First, first_of, split_row}
 
 -- CUTTING: what is cut twice is cut once
@@ -27,11 +26,12 @@ cut_sum a x = omega arith
 pub same_facts : {a b c e : ℕ} → a ≡ c → b ≡ e → ◌≡◌ {A = facts.Facts} (record { size = a; width = b }) (record { size = c; width = e })
 same_facts p q = λ i. record { size = p i; width = q i }
 
-same_sum : {a b c e : ℕ} → a ≡ c → b ≡ e → ◌≡◌ {A = sum.Sum} (record { next = a; width = b }) (record { next = c; width = e })
-same_sum p q = λ i. record { next = p i; width = q i }
-
 pub cut_max : (a b : ℕ) → cut (max (cut a) (cut b) + 1) ≡ cut (suc (max a b))
 cut_max a b = omega arith
+
+-- the sum's facts, from those of its sides
+pub sum_true : (t u : SType) → sum (facts_true t) (facts_true u) ≡ facts_true (t ⊕ u)
+sum_true t u = same_facts (omega arith) (cut_max (width t) (width u))
 
 module _ (d : ℕ) (v : Bool) (s E S W : List ℕ) (g : Ends s E) (low_place : ℕ) (m : Measured s S W low_place) where
   pub entry_size : (p e : ℕ) → low_place ≤ p → walk d v s p ≡ Ok e → entry S p ≡ cut (nodes (low d v s p))
@@ -69,13 +69,16 @@ module _ (d : ℕ) (v : Bool) (s E S W : List ℕ) (g : Ends s E) (low_place : �
           let wide : cut (cut b + entry W p) ≡ cut (b + y) = ap (λ k. cut (cut b + k)) (entry_width p f.end l f.walks) ∙ cut_sum b y in
           (λ i. sums E S W n (here i) (size i) (wide i)) ∙ ih q e (a + x) (b + y) (further p f.end l f.walks) f.rest ∙ same_facts (omega arith) (omega arith)
 
-  -- the width of the sum of what stands in a row, and the place after it
+  pub entry_facts : (p e : ℕ) → low_place ≤ p → walk d v s p ≡ Ok e → cut_entry S W p ≡ facts_true (low d v s p)
+  entry_facts p e l h = same_facts (entry_size p e l h) (entry_width p e l h)
+
+  -- the place after what stands in a row, and the facts of the sum of it
   pub sum_right : (t : BTree) (p e : ℕ) → low_place ≤ p → many (walk d v s) (leaves t) p ≡ Ok e
-      → (sum_width t E W p ≡ record { next = skip d v s (leaves t) p; width = cut (width (balanced_sum t (lows d v s (leaves t) p))) }) × (low_place ≤ skip d v s (leaves t) p)
-  unfolding sum_width lows skip fold
+      → (sum_facts t E S W p ≡ (skip d v s (leaves t) p, facts_true (balanced_sum t (lows d v s (leaves t) p)))) × (low_place ≤ skip d v s (leaves t) p)
+  unfolding sum_facts lows skip fold
   sum_right leaf p e l h =
       let f = first_of d v s 0 p e h in
-      (same_sum (next_place p f.end f.walks) (entry_width p f.end l f.walks), further p f.end l f.walks)
+      (ap₂ {C = ℕ × facts.Facts} (λ x y. (x, y)) (next_place p f.end f.walks) (entry_facts p f.end l f.walks), further p f.end l f.walks)
   sum_right (fork x y) p e l h =
       let (h1, h2) = split_row d v s (leaves x) (leaves y) p e h in
       go (sum_right x p (skip d v s (leaves x) p) l h1) (λ k. sum_right y (skip d v s (leaves x) p) e k h2)
@@ -83,19 +86,19 @@ module _ (d : ℕ) (v : Bool) (s E S W : List ℕ) (g : Ends s E) (low_place : �
       q : ℕ
       q = skip d v s (leaves x) p
 
-      wx : ℕ
-      wx = width (balanced_sum x (lows d v s (leaves x) p))
+      tx : SType
+      tx = balanced_sum x (lows d v s (leaves x) p)
 
-      wy : ℕ
-      wy = width (balanced_sum y (lows d v s (leaves y) q))
+      ty : SType
+      ty = balanced_sum y (lows d v s (leaves y) q)
 
-      go : (sum_width x E W p ≡ record { next = q; width = cut wx }) × (low_place ≤ q) → (low_place ≤ q → (sum_width y E W q ≡ record { next = skip d v s (leaves y) q; width = cut wy }) × (low_place ≤ skip d v s (leaves y) q))
-          → (sum_width (fork x y) E W p ≡ record { next = skip d v s (leaves x + leaves y) p; width = cut (width (balanced_sum (fork x y) (lows d v s (leaves x + leaves y) p))) }) × (low_place ≤ skip d v s (leaves x + leaves y) p)
+      go : (sum_facts x E S W p ≡ (q, facts_true tx)) × (low_place ≤ q) → (low_place ≤ q → (sum_facts y E S W q ≡ (skip d v s (leaves y) q, facts_true ty)) × (low_place ≤ skip d v s (leaves y) q))
+          → (sum_facts (fork x y) E S W p ≡ (skip d v s (leaves x + leaves y) p, facts_true (balanced_sum (fork x y) (lows d v s (leaves x + leaves y) p)))) × (low_place ≤ skip d v s (leaves x + leaves y) p)
       go a b =
           let c = b a.1 in
           let j : skip d v s (leaves x + leaves y) p ≡ skip d v s (leaves y) q = skip_add d v s (leaves x) (leaves y) p in
-          let second : sum_width y E W (sum_width x E W p).next ≡ record { next = skip d v s (leaves y) q; width = cut wy } = ap (λ (k : sum.Sum). sum_width y E W k.next) a.0 ∙ c.0 in (
-            (λ i. record { next = (second i).next; width = cut (max (a.0 i).width (second i).width + 1) })
-                ∙ same_sum (sym j) (cut_max wx wy ∙ ap₂ (λ t u. cut (suc (max (width (balanced_sum x t)) (width (balanced_sum y u))))) (sym (take_lows d v s (leaves x) (leaves y) p)) (sym (drop_lows d v s (leaves x) (leaves y) p))),
+          let second : sum_facts y E S W (sum_facts x E S W p).0 ≡ (skip d v s (leaves y) q, facts_true ty) = ap (λ (k : ℕ × facts.Facts). sum_facts y E S W k.0) a.0 ∙ c.0 in (
+            (λ i. ((second i).0, sum (a.0 i).1 (second i).1))
+                ∙ ap₂ {C = ℕ × facts.Facts} (λ n f. (n, f)) (sym j) (sum_true tx ty ∙ ap₂ (λ t u. facts_true (balanced_sum x t ⊕ balanced_sum y u)) (sym (take_lows d v s (leaves x) (leaves y) p)) (sym (drop_lows d v s (leaves x) (leaves y) p))),
             rw j c.1,
           )

@@ -1,18 +1,18 @@
 -- Rows 1 to 7 of a type file and its whole table, as walks are given them.
-use Rattle.std.specs.Prelude.{◌≡◌, List, true, false, ℕ, ◌≤◌, length, Result, Ok, Err}
-use Rattle.std.proofs.Common.{sym, subst, ◌∙◌, arith}
+use Rattle.std.specs.Prelude.{◌≡◌, ⊤, List, Bool, true, false, ℕ, ◌≤◌, length, Result, Ok, Err}
+use Rattle.std.proofs.Common.{sym, ap, subst, ◌∙◌, arith}
 use Rattle.reply.specs.declared.Refusal.{Refusal}
 use Rattle.reply.specs.declared.Refusal.TheVariants.{NeverStands, TooLarge}
 use Rattle.model.specs.Numbers.{never_stands, too_large}
 use Rattle.model.specs.Outcome.{done, refuse, ◌>>◌}
+use Rattle.model.specs.Lowering.{has_never, over_large}
 use Rattle.model.specs.Operations.{lowering}
 use Rattle.types.specs.Table.{Ends, EndsIf, Checked, type_answer}
 use Rattle.types.specs.Trees.{tree}
 use Rattle.types.specs.Accepted.{few}
 use Rattle.types.specs.Model.{outcome_of, type_of_is}
-use Rattle.table.specs.declared.Flags as flags
 use Rattle.table.specs.Facts.{Measured}
-use Rattle.table.specs.Measuring.{Measurable, Measures}
+use Rattle.table.specs.Measuring.{Measurable, Measures, verdict}
 
 -- the table of a type file that lowers: each record's end, size and width
 pub record Table (s E S W : List ℕ) (n : ℕ) : Type 0 where
@@ -29,6 +29,11 @@ pub record Tabled (s : List ℕ) (r : Result ℕ Refusal) (E S W : List ℕ) : T
   pub answer : lowering s ≡ outcome_of r (tree 32 s 0)
   pub table : TableIf r s E S W
 
+-- n, unless it is refused
+abbrev and_then : Result ⊤ Refusal → ℕ → Result ℕ Refusal
+and_then (Ok tt) n = Ok n
+and_then (Err x) n = Err x
+
 module _ {s E S W : List ℕ} {r : Result ℕ Refusal} where
   -- rows 1 to 5
   pub tabled_refused : (x : Refusal) → Checked s r E → r ≡ Err x → Tabled s (Err x) E S W
@@ -41,21 +46,22 @@ module _ {s E S W : List ℕ} {r : Result ℕ Refusal} where
       let l = few s n p in
       record { ends = subst (λ (x : Result ℕ Refusal). EndsIf x s E) e c.table; accepted = p; sizes = omega arith; widths = omega arith }
 
-  module _ (n : ℕ) (f : flags.Flags) (c : Checked s r E) (e : r ≡ Ok n) (m : Measures s f S W) where
-    by_flags : lowering s ≡ (refuse never_stands f.never >> (refuse too_large f.large >> done (tree 32 s 0)))
+  module _ (n : ℕ) (a : Result ⊤ Refusal) (c : Checked s r E) (e : r ≡ Ok n) (m : Measures s a S W) where
+    by_rows : lowering s ≡ (refuse never_stands (has_never (tree 32 s 0)) >> (refuse too_large (over_large (tree 32 s 0)) >> done (tree 32 s 0)))
     unfolding lowering
-    by_flags = rw (type_of_is s, ← c.answer, e, m.never, m.large)
+    by_rows = rw (type_of_is s, ← c.answer, e)
 
-    -- row 6
-    pub tabled_never : f.never ≡ true → Tabled s (Err NeverStands) E S W
-    tabled_never x = record { answer = by_flags ∙ rw x; table = tt }
+    told_of : (x y : Bool) → a ≡ verdict x y → (refuse never_stands x >> (refuse too_large y >> done (tree 32 s 0))) ≡ outcome_of (and_then a n) (tree 32 s 0)
+    told_of true y h = rw h
+    told_of false true h = rw h
+    told_of false false h = rw h
 
-    -- row 7
-    pub tabled_large : f.never ≡ false → f.large ≡ true → Tabled s (Err TooLarge) E S W
-    tabled_large x y = record { answer = by_flags ∙ rw (x, y); table = tt }
+    -- rows 6 and 7
+    pub tabled_not : (x : Refusal) → a ≡ Err x → Tabled s (Err x) E S W
+    tabled_not x h = record { answer = by_rows ∙ told_of _ _ m.answer ∙ ap (λ a. outcome_of (and_then a n) (tree 32 s 0)) h; table = tt }
 
-    pub tabled : f.never ≡ false → f.large ≡ false → Tabled s (Ok n) E S W
-    tabled x y = record {
-      answer = by_flags ∙ rw (x, y);
+    pub tabled : a ≡ Ok tt → Tabled s (Ok n) E S W
+    tabled h = record {
+      answer = by_rows ∙ told_of _ _ m.answer ∙ ap (λ a. outcome_of (and_then a n) (tree 32 s 0)) h;
       table = record { accepted = sym c.answer ∙ e; ends = subst (λ (x : Result ℕ Refusal). EndsIf x s E) e c.table; measured = m.measured };
     }

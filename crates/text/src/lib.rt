@@ -1,4 +1,5 @@
 // The lines that programs print, written into a buffer: those of `job` for an accepted type and value, the one of a refusal, or the one of a search.
+// They are written by functions of our own, and not by `Display` and `write!`: the clauses say each byte that is put down and that those behind stay, and a formatter answers a `Result` that cannot fail here.
 #![tactic(auto)]
 
 ghost use Rattle.std.specs.Prelude.{◌≡◌, ◌<◌, ◌≤◌, length};
@@ -141,20 +142,12 @@ fn write_short(name: &[u8], n: usize, out: &mut [u8]) -> usize
     k + 1
 }
 
-// Writes the line of a refusal over the front of `out`, and answers its length; the bytes behind it stay.
-fn write_refusal(number: usize, out: &mut [u8]) -> usize
-    requires { length (refusal_line number) ≤ length out.old }
-    ensures { Wrote (refusal_line number) out.old out.new result }
-{
-    write_short(b"refused", number, out)
-}
-
-// Writes the line of a refusal, and answers its length.
+// Writes the line of a refusal, and answers its length. The cast only widens: no `From` takes a `u32` to a `usize`, and of a `TryFrom` there is an error to drop that cannot be.
 pub fn write_refused(x: Refusal, out: &mut [u8]) -> usize
     requires { 12 ≤ length out.old }
     ensures { Wrote (refusal_line (refusal_number x)) out.old out.new result }
 {
-    write_refusal(u32::from(x) as usize, out)
+    write_short(b"refused", u32::from(x) as usize, out)
 }
 
 // Writes the line of a search that found frame i, and answers its length.

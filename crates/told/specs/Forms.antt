@@ -3,7 +3,7 @@
 use Rattle.std.specs.Prelude.{Bool, true, false, List, [], ◌∷◌, map, ℕ, zero, suc, ◌+◌, ◌-◌, ◌*◌, ◌/◌, ◌<◌, ◌≤◌, length, get_or, take, drop}
 use Rattle.std.proofs.Math.Option.{Option, none, some}
 use Rattle.num.specs.declared.NonZeroPow2Usize.{NonZeroPow2Usize}
-use Rattle.num.specs.Powers.{bound, bound_log2}
+use Rattle.num.specs.Powers.{bound_two, bound_log2}
 use Rattle.model.specs.Outcome.{Outcome, done, refused}
 use Rattle.model.specs.Options.{map_o, bind_o}
 use Rattle.model.specs.Bytes.{records}
@@ -18,9 +18,11 @@ use Rattle.types.specs.Record.{rec_at}
 use Rattle.types.specs.Trees.{tree, treev}
 use Rattle.structural.specs.Forms.{is_variant, ending, Stands}
 use Rattle.value.specs.Record.{number_at}
+unfoldable pub use Rattle.table.specs.Hops.{hops}
+pub use Rattle.table.specs.Hops.{Hops}
 use Rattle.bits.specs.Bits.{bits_at}
-use Rattle.told.specs.declared.Parts.{Parts}
-use Rattle.told.specs.declared.Parts.TheVariants.{Copies, Types}
+use Rattle.types.specs.declared.forms.Parts.{Parts}
+use Rattle.types.specs.declared.forms.Parts.TheVariants.{Copies, Types}
 use Rattle.told.specs.declared.Form.{Form}
 use Rattle.told.specs.declared.Form.TheVariants as form
 
@@ -36,9 +38,9 @@ form_of Missing val v = form.Product Types 0
 form_of Faulty val v = form.Product Types 0
 form_of Never val v = form.Product Types 0
 form_of Boolean val v = form.Bits 15 1
-form_of (UInt w) val v = form.Bits (288 - w.0) w.0
+form_of (UInt w) val v = form.Bits (288 - w.value) w.value
 form_of Either val v = form.Sum 2 (choice_at val v)
-form_of Opt val v = form.List (bound 2) (choice_at val v)
+form_of Opt val v = form.List bound_two (choice_at val v)
 form_of (Tuple n) val v = form.Product Types n
 form_of (Array n) val v = form.Product Copies n
 form_of (Listed b) val v = form.List b (number_at val v)
@@ -51,7 +53,7 @@ Read Missing val v = Unit
 Read Faulty val v = Unit
 Read Never val v = Unit
 Read Boolean val v = Unit
-Read (UInt w) val v = w.0 ≤ 256
+Read (UInt w) val v = w.value ≤ 256
 Read Either val v = v < length val / 36
 Read Opt val v = v < length val / 36
 Read (Tuple n) val v = Unit
@@ -129,18 +131,7 @@ chosen d s val n i p v = map_o (λ x. (enum_injection (btree n) i x.0, x.1)) (st
 
 -- a list of m elements
 unfoldable pub listed : ℕ → List ℕ → List ℕ → NonZeroPow2Usize → ℕ → ℕ → ℕ → Told
-listed d s val b m p v = map_o (λ x. (partition (bound_log2 b.0 - 1) x.0, x.1)) (row Copies d s val m p v)
-
--- RECORDS IN A ROW
-
--- n records on, each time to the end that the table says
-unfoldable pub hops : List ℕ → ℕ → ℕ → ℕ
-hops E zero p = p
-hops E (suc n) p = hops E n (get_or E p 0)
-
--- each of them stands in the table
-pub record Hops (E : List ℕ) (n p : ℕ) : Type 0 where
-  pub each : (i : ℕ) → i < n → hops E i p < length E
+listed d s val b m p v = map_o (λ x. (partition (bound_log2 b.value - 1) x.0, x.1)) (row Copies d s val m p v)
 
 -- the record that the table says to be after the part at p
 abbrev pub after_at : Parts → List ℕ → ℕ → ℕ

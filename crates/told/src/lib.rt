@@ -2,25 +2,17 @@
 // The file was checked before, so nothing is tested again.
 #![tactic(auto)]
 
-ghost use Rattle.std.specs.Prelude.{◌≡◌, ◌<◌, ◌/◌, length};
-ghost use Rattle.told.specs.Forms.{choice_at, form_of, Read, hops, Hops, after_at};
+ghost use Rattle.std.specs.Prelude.{◌≡◌, ◌<◌, length};
+ghost use Rattle.told.specs.Forms.{form_of, Read, after_at};
 ghost use Rattle.told.specs.Laws.Lists.{block_share};
 ghost use Rattle.types.specs.Entries.{ends};
 
 use num::NonZeroPow2Usize;
-use types::{Head, Table};
-use value::{number_of, wide};
+pub use table::hop;
+use types::{Head, Parts, Table};
+use value::ValueRecord;
 
-// What the parts of a product are, and where they stand in the type file.
-#[derive(Clone, Copy)]
-pub enum Parts {
-    // the parts of an array or the elements of a list, all of them told by the one type below it
-    Copies,
-    // the types of a tuple or a Variant, one after the other
-    Types,
-}
-
-// What a value is.
+// What a value is. An Either and an Option say their number by the choice, a List and an Enum by the number, which `types::Form` no longer tells apart.
 #[derive(Clone, Copy)]
 pub enum Form {
     // so many bits of its own record, from this one on
@@ -35,45 +27,27 @@ pub enum Form {
     Payload(usize),
 }
 
-// The choice of record v.
-fn choice_of(val: &[u8], v: usize) -> usize
-    requires { v < length val.now / 36 }
-    ensures { result ≡ choice_at val.now v }
-{
-    wide(val[v * 36 + 1])
-}
-
 // The form of the value at record v, as one of a type whose record says this.
+#[tactic(auto, using(crate::specs::Laws::Arms::uint_fits, crate::specs::Laws::Arms::reads_either, crate::specs::Laws::Arms::reads_option, crate::specs::Laws::Arms::reads_list, crate::specs::Laws::Arms::reads_enum), unfolding(crate::specs::Forms::choice_at))]
 pub fn form_of(h: Head, val: &[u8], v: usize) -> Form
     requires { Read h val.now v }
     ensures { result ≡ form_of h val.now v }
 {
     match h {
-        Head::Missing => Form::Product(Parts::Types, 0),
-        Head::Faulty => Form::Product(Parts::Types, 0),
-        Head::Never => Form::Product(Parts::Types, 0),
+        Head::Missing | Head::Faulty | Head::Never => Form::Product(Parts::Types, 0),
         Head::Boolean => Form::Bits(15, 1),
         Head::UInt(w) => Form::Bits(288 - w.get(), w.get()),
-        Head::Either => Form::Sum(2, choice_of(val, v)),
-        Head::Opt => Form::List(NonZeroPow2Usize::TWO, choice_of(val, v)),
+        Head::Either => Form::Sum(2, ValueRecord::new(val, v).choice().into()),
+        Head::Opt => Form::List(
+            NonZeroPow2Usize::TWO,
+            ValueRecord::new(val, v).choice().into(),
+        ),
         Head::Tuple(n) => Form::Product(Parts::Types, n),
         Head::Array(n) => Form::Product(Parts::Copies, n),
-        Head::Listed(b) => Form::List(b, number_of(val, v)),
-        Head::Variants(n) => Form::Sum(n, number_of(val, v)),
+        Head::Listed(b) => Form::List(b, ValueRecord::new(val, v).number()),
+        Head::Variants(n) => Form::Sum(n, ValueRecord::new(val, v).number()),
         Head::Payload(n) => Form::Payload(n),
     }
-}
-
-// The record that stands n records behind record `at`, each with all below it.
-pub fn hop(table: &Table<'_>, at: usize, n: usize) -> usize
-    requires { Hops (ends table.now.entries.now) n at }
-    ensures { result ≡ hops (ends table.now.entries.now) n at }
-{
-    let mut next = at;
-    for _ in 0..n {
-        next = table.end(next);
-    }
-    next
 }
 
 // The record of the part after the one at `at`.
@@ -87,7 +61,7 @@ pub fn after_part(table: &Table<'_>, at: usize, parts: Parts) -> usize
     }
 }
 
-// The elements that the block of `half` takes of m: all that it has place for, or none.
+// The elements that the block of `half` takes of m: all that it has place for, or none; no method of a number says this.
 pub fn share(m: usize, half: usize) -> usize
     ensures { result ≡ block_share m half }
 {

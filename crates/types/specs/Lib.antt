@@ -1,5 +1,6 @@
 -- What a type file says, record by record, and what its check answers; with the model: `Model`.
 pub mod Record
+pub mod Forms
 pub mod Heads
 pub mod Walks
 pub mod Table

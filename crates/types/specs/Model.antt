@@ -3,7 +3,7 @@
 -- One record is compared by what it says (`Says`), its children by the readers and walks handed in, and the levels are one induction. Assumes nothing.
 use Rattle.reply.specs.declared.Refusal.TheVariants.{BadRecord, TooDeep, NotOneType, TypeLength, TypeTooLong}
 use Rattle.reply.specs.Numbers.{refusal_number}
-use Rattle.std.specs.Prelude.{◌≡◌, List, [], ◌∷◌, map, Bool, true, false, not, ◌||◌, ltb, leb, eqb, length, take, drop, get_or, Some, None, Result, Ok, Err}
+use Rattle.std.specs.Prelude.{◌≡◌, List, [], ◌∷◌, map, Bool, true, false, not, ◌||◌, ltb, leb, eqb, length, take, drop, get_or, Result, Ok, Err}
 use Rattle.std.proofs.Math.Path.{refl, ap}
 use Rattle.std.proofs.Common.{sym, ap₂, ◌∙◌, add-zero, add-one, arith, drop_of_length-le, drop-cons, get_or-take, get_or-drop, ltb-true, ltb-false, lt-ltb, le-ltb, leb-true, leb-false, eqb-true, ne_eqb}
 use Rattle.std.proofs.Math.Option.{Option, none, some}
@@ -20,7 +20,10 @@ use Rattle.model.specs.Types.{Ty, Tys, either, option, tuple, array, list, enum,
 use Rattle.model.specs.TypeFiles as file
 use Rattle.model.specs.TypeFiles.{TRec, type_record, Reader, made, on_record, widths, is_never, is_bool, is_either, is_option, is_uint, is_tuple, is_array, is_list, is_enum, head, variant_parts, read_types, read_variants, read_children, read_type, read_variant, type_of, trec}
 use Rattle.model.proofs.Laws.Records.{length_cut, cut_at}
-use Rattle.num.specs.Powers.{bound, bound_if, bound_of, bound_log2, width, width_of}
+use Rattle.num.specs.declared.NonZeroPow2Usize.{NonZeroPow2Usize}
+use Rattle.num.specs.declared.Pow2Usize.{Pow2Usize}
+use Rattle.num.specs.Admitted.{bound_exponent, is_bound, is_width}
+use Rattle.num.specs.Powers.{bound, bound_if, bound_of, bound_log2, width, width_if, width_of}
 use Rattle.num.specs.Laws.{bounded}
 use Rattle.types.specs.declared.Head.{Head}
 use Rattle.types.specs.declared.Head.TheVariants.{Missing, Faulty, Never, Boolean, UInt, Either, Opt, Tuple, Array, Listed, Variants, Payload}
@@ -68,12 +71,12 @@ rows_at s at h =
 data Means : Head → file.Head → Type 0 where
   as_never : Means Never is_never
   as_bool : Means Boolean is_bool
-  as_uint : {n : ℕ} → Means (UInt (width n)) (is_uint n)
+  as_uint : {w : Pow2Usize} → Means (UInt w) (is_uint w.value)
   as_either : Means Either is_either
   as_option : Means Opt is_option
   as_tuple : {n : ℕ} → Means (Tuple n) (is_tuple n)
   as_array : {n : ℕ} → Means (Array n) (is_array n)
-  as_list : {n e : ℕ} → bound_log2 n ≡ suc e → Means (Listed (bound n)) (is_list e)
+  as_list : {b : NonZeroPow2Usize} {e : ℕ} → bound_log2 b.value ≡ suc e → Means (Listed b) (is_list e)
   as_enum : {n : ℕ} → Means (Variants (suc n)) (is_enum n)
 
 -- a record here, and what the model reads of it: as a type, and as a Variant
@@ -89,19 +92,21 @@ says_zero h m e false = as_nothing
 
 says_width : (n : ℕ) → Says (by_width (width_of n)) (when (one_of n widths) (some (is_uint n))) none
 unfolding width_of
-says_width n = go (one_of n widths)
+says_width n = go (is_width n) refl
   where
-    go : (b : Bool) → Says (by_width (pick b (Some (width n)) None)) (when b (some (is_uint n))) none
-    go true = as_type as_uint
-    go false = as_nothing
+    go : (b : Bool) (h : is_width n ≡ b) → Says (by_width (width_if n b h)) (when b (some (is_uint n))) none
+    go true h = as_type (as_uint {w = width n h})
+    go false h = as_nothing
 
 says_bound : (n : ℕ) → Says (by_bound (bound_of n)) (map_o is_list (find (λ e. 2 ^ suc e) 15 0 n)) none
 unfolding bound_of
-says_bound n = go (find (λ e. 2 ^ suc e) 15 0 n) refl
+says_bound n = go (bound_exponent n) refl (is_bound n) refl
   where
-    go : (o : Option ℕ) → find (λ e. 2 ^ suc e) 15 0 n ≡ o → Says (by_bound (bound_if n o)) (map_o is_list o) none
-    go none q = as_nothing
-    go (some e) q = as_type (as_list (bounded n e q).log2)
+    go : (o : Option ℕ) → bound_exponent n ≡ o → (c : Bool) (h : is_bound n ≡ c) → Says (by_bound (bound_if n c h)) (map_o is_list o) none
+    go none q true h = let z : ◌≡◌ {A = ℕ} 0 1 = cc in absurd (omega arith)
+    go none q false h = as_nothing
+    go (some e) q true h = as_type (as_list {b = bound n h} (bounded n e q).log2)
+    go (some e) q false h = let z : ◌≡◌ {A = ℕ} 0 1 = cc in absurd (omega arith)
 
 -- with byte 1 zero, by the kind
 says_kind : (k n : ℕ) → Says (head_of k 0 n) (head (trec k n)) (variant_parts (trec k n))

@@ -32,12 +32,12 @@ node Missing g f h k at = tuple nil
 node Faulty g f h k at = tuple nil
 node Never g f h k at = never
 node Boolean g f h k at = bool
-node (UInt w) g f h k at = uint w.0
+node (UInt w) g f h k at = uint w.value
 node Either g f h k at = either (g at) (g (end_of (f at)))
 node Opt g f h k at = option (g at)
 node (Tuple n) g f h k at = tuple (kids g f n at)
 node (Array n) g f h k at = array (g at) n
-node (Listed b) g f h k at = list (g at) (bound_log2 b.0 - 1)
+node (Listed b) g f h k at = list (g at) (bound_log2 b.value - 1)
 node (head.Variants n) g f h k at = enum (cases h k (n - 1) at)
 node (Payload n) g f h k at = tuple nil
 

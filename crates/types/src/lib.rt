@@ -11,12 +11,19 @@ ghost use Rattle.types.specs.Table.{Walked, Checked};
 ghost use Rattle.types.specs.Entries.{ends, sizes, widths};
 
 pub use entry::Entry;
+pub use forms::{Form, Parts};
 use num::{NonZeroPow2Usize, Pow2Usize};
 pub use places::Table;
 use reply::Refusal;
 
 mod entry;
+mod forms;
 mod places;
+
+// The most records that a type file has, and the most levels of a type.
+pub const RECORDS: usize = 1024;
+
+pub const LEVELS: usize = 32;
 
 // What a record says.
 #[derive(Clone, Copy, PartialEq, Eq, Debug)]
@@ -52,14 +59,14 @@ fn uint_head(n: usize) -> Head
     Pow2Usize::new(n).map_or(Head::Faulty, Head::UInt)
 }
 
-// A List with the bound n, `Faulty` where that is no bound.
+// A List with the bound n, `Faulty` where that is no bound; a line of its own beside `uint_head`, as the two numbers are of two types.
 fn list_head(n: usize) -> Head
     ensures { result ≡ by_bound (bound_of n) }
 {
     NonZeroPow2Usize::new(n).map_or(Head::Faulty, Head::Listed)
 }
 
-// What a record of this kind, second byte and number says.
+// What a record of this kind, second byte and number says. The kinds' numbers are the file's, and are read here alone.
 #[tactic(auto, unfolding(crate::specs::Record::head_of))]
 fn head_of(kind: u8, zero: u8, n: usize) -> Head
     ensures { result ≡ head_of kind zero n }
@@ -169,10 +176,10 @@ pub fn check_type(ty: &[u8], entries: &mut [Entry]) -> Result<usize, Refusal>
         return Err(Refusal::TypeLength);
     }
     let records = n / 4;
-    if records > 1024 {
+    if records > RECORDS {
         return Err(Refusal::TypeTooLong);
     }
-    if walk(ty, entries, 0, 32, false)? != records {
+    if walk(ty, entries, 0, LEVELS, false)? != records {
         return Err(Refusal::NotOneType);
     }
     Ok(records)

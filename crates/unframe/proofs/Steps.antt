@@ -5,8 +5,12 @@ use mathlib.Core.List.{List, [], ◌∷◌, ◌++◌, append-nil, append_assoc}
 use mathlib.Core.Option.{Option, none, some, some-injective, none-ne-some}
 use Prim.Native.Nat.{ℕ, suc, ◌+◌, ◌-◌, ◌*◌, ◌^◌, ◌≤◌, ◌<◌}
 use native.Mathlib.Omega.{arith}
-use lib.ListN.{length}
+use lib.ListN.{length, get_or}
+use Rattle.std.specs.Int.{from_bool}
+use Rattle.std.specs.Prelude.{Option as Optional, Some}
 use Rattle.num.specs.declared.NonZeroPow2Usize.{NonZeroPow2Usize}
+use Rattle.num.specs.Powers.{half_bound}
+use Rattle.told.specs.Widths.{Wide}
 use Rattle.model.specs.Options.{map_o}
 use Rattle.model.specs.Bytes.{in_bytes}
 use Rattle.model.specs.Structural.{SType, block_type}
@@ -19,8 +23,8 @@ use Rattle.structural.specs.Forms as structural
 use Rattle.structural.specs.Writing.{put, Wrote}
 use Rattle.structural.proofs.Laws.Writing.{rest, back, wrote_none, wrote_length}
 use Rattle.bits.specs.Bits.{Inside}
-use Rattle.told.specs.declared.Parts.{Parts}
-use Rattle.told.specs.declared.Parts.TheVariants.{Copies}
+use Rattle.types.specs.declared.forms.Parts.{Parts}
+use Rattle.types.specs.declared.forms.Parts.TheVariants.{Copies}
 use Rattle.told.specs.Forms.{GivenParts, after}
 use Rattle.told.specs.Laws.Trees.{given_one}
 use Rattle.record.specs.Marks.{bytes, written}
@@ -30,7 +34,7 @@ use Rattle.accept.specs.Laws.Walking.{given_rest, row_wide}
 use Rattle.unframe.specs.declared.Numbered.{Numbered}
 use Rattle.unframe.specs.Forms.{standing, both, row, block, both_numbered, listed, Ready, ReadyNumbered, Placed, PlacedNumbered}
 use Rattle.unframe.specs.Laws.Formed.{Marked, Counted}
-use Rattle.unframe.specs.Laws.Lists.{row_one, block_none, block_all, Two, Halved}
+use Rattle.unframe.specs.Laws.Lists.{row_one, block_none, block_all, Two, Halved, list_more}
 use Rattle.record.specs.Laws.Writing.{first_room, first_fits, second_room, both_done, both_small, record_room, below_room, below_length, record_small, record_done, record_alone, returned, integer_put}
 
 -- WHAT IS THERE IS ONE THING
@@ -60,6 +64,14 @@ module _ {o : Option (List Rec)} {m : Rec} (e : o ≡ some (m ∷ [])) {out : Li
 
   pub one_placed : {l : List ℕ} → l ≡ put (bytes m) out → Placed o out l 36
   one_placed {l} w = record { recs = m ∷ []; there = e; wrote = record_alone m out l w }
+
+-- a bit as a number
+pub bit_number_is : {b c : Bool} {n : ℕ} → n ≡ from_bool b → b ≡ c → n ≡ bit_number c
+bit_number_is {c = c} e f = e ∙ ap from_bool f ∙ same c
+  where
+    same : (b : Bool) → from_bool b ≡ bit_number b
+    same true = refl
+    same false = refl
 
 pub bit_below : (b : Bool) → bit_number b < 2
 bit_below true = omega arith
@@ -256,7 +268,7 @@ module _ {b : NonZeroPow2Usize} {d : ℕ} {s : List ℕ} {p : ℕ} (two : Two b 
   two_missing out t = placed_numbered_as (two.same fr bit) (block_missing d s 1 p fr bit out t)
 
 -- a block's tag and its elements
-pub block_wide : (t : SType) (n w : ℕ) → w ≡ width t → width (block_type n t) ≡ suc (n * w)
+block_wide : (t : SType) (n w : ℕ) → w ≡ width t → width (block_type n t) ≡ suc (n * w)
 block_wide t n w e = rw e (width_block n t)
 
 -- a block, and the blocks behind it
@@ -307,9 +319,22 @@ module _ {o a b : Option (ℕ × List Rec)} (e : Blocks o a b) {out : List ℕ} 
       }
 
 -- the block of half the bound, and the list with that bound
-module _ {b h : NonZeroPow2Usize} {d : ℕ} {s : List ℕ} {p : ℕ} (g : Halved b h d s p) {n w : ℕ} (e : n ≡ h.0) (f : w ≡ width (structural.standing d s p)) where
-  pub halved_wide : width (structural.listed d s b p) ≡ suc (n * w) + width (structural.listed d s h p)
+module _ {b h : NonZeroPow2Usize} {d : ℕ} {s : List ℕ} {p : ℕ} (g : Halved b h d s p) {n w : ℕ} (e : n ≡ h.value) (f : w ≡ width (structural.standing d s p)) where
+  halved_wide : width (structural.listed d s b p) ≡ suc (n * w) + width (structural.listed d s h p)
   halved_wide = rw (e, f) g.wide
 
-  pub halved_blocks : (fr : List ℕ) (bit : ℕ) → Blocks (listed d s b p fr bit) (block d s n p fr bit) (listed d s h p fr (bit + 1 + n * w))
+  halved_blocks : (fr : List ℕ) (bit : ℕ) → Blocks (listed d s b p fr bit) (block d s n p fr bit) (listed d s h p fr (bit + 1 + n * w))
   halved_blocks fr bit = rw (e, f) (record { same = g.same fr bit })
+
+-- the same of a list with the bound b, in a frame whose widths are known, where n is half the bound and w an element's width
+pub record Listing (b h : NonZeroPow2Usize) (d : ℕ) (s : List ℕ) (p : ℕ) (n w : ℕ) : Type 0 where
+  pub less : h.value < b.value
+  pub tagged : width (block_type n (structural.standing d s p)) ≡ suc (n * w)
+  pub wide : width (structural.listed d s b p) ≡ suc (n * w) + width (structural.listed d s h p)
+  pub blocks : (fr : List ℕ) (bit : ℕ) → Blocks (listed d s b p fr bit) (block d s n p fr bit) (listed d s h p fr (bit + 1 + n * w))
+
+pub listing : {b h : NonZeroPow2Usize} {d : ℕ} {s E W : List ℕ} {p n w : ℕ} {x : Optional NonZeroPow2Usize} → Stands d s E p → Wide s E W → x ≡ half_bound b → x ≡ Some h → n ≡ h.value → w ≡ get_or W p 0 → Listing b h d s p n w
+listing {d = d} {s = s} {p = p} {n = n} g v k t e i =
+    let u = i ∙ v.right d p g in
+    let m = list_more d s p (sym t ∙ k) in
+    record { less = m.less; tagged = block_wide (structural.standing d s p) n _ u; wide = halved_wide m e u; blocks = halved_blocks m e u }

@@ -10,8 +10,8 @@ use Rattle.model.specs.ValueFiles.{Rec}
 use Rattle.model.specs.Frames.{width}
 use Rattle.structural.specs.Forms as structural
 use Rattle.structural.specs.Writing.{Wrote}
-use Rattle.told.specs.declared.Parts.{Parts}
-use Rattle.told.specs.declared.Parts.TheVariants.{Copies}
+use Rattle.types.specs.declared.forms.Parts.{Parts}
+use Rattle.types.specs.declared.forms.Parts.TheVariants.{Copies}
 use Rattle.told.specs.Forms.{after, hops}
 use Rattle.record.specs.Marks.{written}
 use Rattle.record.specs.Trees.{part, numbered}
@@ -49,7 +49,7 @@ blocks d s (suc e) p fr bit = both_numbered (block d s (2 ^ suc e) p fr bit) (bl
 
 -- as a list with the bound
 unfoldable pub listed : ℕ → List ℕ → NonZeroPow2Usize → ℕ → List ℕ → ℕ → Option (ℕ × List Rec)
-listed d s b p fr bit = blocks d s (bound_log2 b.0 - 1) p fr bit
+listed d s b p fr bit = blocks d s (bound_log2 b.value - 1) p fr bit
 
 -- TAGS
 

@@ -1,19 +1,19 @@
 // The reader of a frame into a value file (01, 'Frame'; ported from no Rust file): a type and a frame are walked together, and the value's records are written.
 // The frame was accepted before, so nothing is tested again.
+// The clauses `Inside`, `Ready` and `ReadyNumbered` speak of what stands at the bit of one call as what that call takes it for, so no value that the walk hands on could carry them.
+// Frame and bit are handed on apart: the bit alone moves, and a struct of both would be made anew at each call.
 #![tactic(auto)]
 
 ghost use Rattle.std.specs.Prelude.{◌≡◌, false, ◌≤◌};
 ghost use Rattle.model.specs.Balanced.{btree};
 ghost use Rattle.model.specs.Structural.{block_type};
-ghost use Rattle.model.specs.ValueFiles.{bit_number};
 ghost use Rattle.model.specs.Frames.{width};
-ghost use Rattle.types.specs.Heads.{FairBound};
 ghost use Rattle.types.specs.Steps.{Given};
 ghost use Rattle.structural.specs.Forms.{Stands};
 ghost use Rattle.structural.specs.Forms as structural;
 ghost use Rattle.bits.specs.Bits.{Inside};
 ghost use Rattle.told.specs.Forms.{GivenParts, Hops};
-ghost use Rattle.accept.specs.Forms.{tag_at, choice_in, row_width};
+ghost use Rattle.accept.specs.Forms.{choice_in, row_width};
 ghost use Rattle.told.specs.Widths.{Wide};
 ghost use Rattle.unframe.specs.Forms.{standing, row, block, listed, height, Chosen, Ready, ReadyNumbered, Placed, PlacedNumbered};
 ghost use Rattle.types.specs.Entries.{ends, widths};
@@ -21,17 +21,12 @@ ghost use Rattle.types.specs.Entries.{ends, widths};
 use array::btree_split_index;
 use num::NonZeroPow2Usize;
 use reader::{bit_at, uint_at};
-use record::{Form, form_of, write_mark};
-use told::{Parts, after_part, hop};
-use types::Table;
+use record::write_mark;
+use told::{after_part, hop};
+use types::{Form, LEVELS, Parts, Table};
+use value::RECORD;
 
-// The bytes of a value's record.
-const RECORD: usize = 36;
-
-// The levels that a type may have.
-const LEVELS: usize = 32;
-
-// The number of a choice, the type's record of it, and the bit at which it begins.
+// The number of a choice, the type's record of it, and the bit at which it begins: three numbers of three kinds, so each has its name.
 #[derive(Clone, Copy)]
 pub struct Choice {
     pub number: usize,
@@ -39,19 +34,11 @@ pub struct Choice {
     pub bit: usize,
 }
 
-// How many elements were written, and in how many bytes.
+// How many elements were written, and in how many bytes: two counts, which a pair would let a caller exchange.
 #[derive(Clone, Copy)]
 struct Numbered {
     number: usize,
     len: usize,
-}
-
-// The bit at `bit`, as a number.
-fn bit_number(frame: &[u8], bit: usize) -> usize
-    requires { Inside frame.now bit 1 }
-    ensures { result ≡ bit_number (tag_at frame.now bit) }
-{
-    usize::from(bit_at(frame, bit))
 }
 
 // The one of the n choices from record `at` on that the tags from `bit` on lead to.
@@ -77,6 +64,8 @@ pub fn find_choice(table: &Table<'_>, at: usize, n: usize, frame: &[u8], bit: us
 }
 
 // Writes the value that stands in the frame from `bit` on as one of what stands at record `at`, a type or a Variant's payload, with `level` levels from there on, and answers the bytes written.
+// Of the walks by a type's form this one reads bits of a frame and writes records; the widths tell where each part begins, so a product is a loop and no step answers the bit after it.
+// What stands behind a record is written before its mark, which may need the number found there. Each arm that does so marks by itself: a function for these two lines would take the buffer, the head, the number and the length.
 #[cycle(write_block_write_list_write_record_write_row)]
 pub fn write_record(
     table: &Table<'_>,
@@ -93,10 +82,10 @@ pub fn write_record(
     ensures { Placed (standing level table.now.ty.now at frame.now bit) out.old out.new result }
 {
     let h = table.head(at);
-    match form_of(h) {
+    match h.form() {
         Form::Nothing => 0,
         Form::Bit => {
-            write_mark(out, h, bit_number(frame, bit));
+            write_mark(out, h, usize::from(bit_at(frame, bit)));
             RECORD
         }
         Form::Integer(w) => {
@@ -204,6 +193,7 @@ fn write_block(
 }
 
 // Writes the elements of a list with the bound: with the bound 2 none or one, else a block of half the bound and a list with that bound.
+// The bound 2 has arms of its own, and no block of one: the largest frame's `read_frame` takes 6 % less so.
 #[cycle(write_block_write_list_write_record_write_row)]
 fn write_list(
     table: &Table<'_>,
@@ -214,7 +204,6 @@ fn write_list(
     bit: usize,
     out: &mut [u8],
 ) -> Numbered
-    requires fair_bound { FairBound bound }
     requires stands { Stands level table.now.ty.now (ends table.now.entries.now) at }
     requires wide { Wide table.now.ty.now (ends table.now.entries.now) (widths table.now.entries.now) }
     requires inside { Inside frame.now bit (width (structural.listed level table.now.ty.now bound at)) }

@@ -1,5 +1,5 @@
 -- One step of each walk that the code makes, as an equation of its definition. Assumes nothing.
-use Rattle.std.specs.Prelude.{◌≡◌, refl, List, Bool, true, false, length, get_or, ltb, eqb}
+use Rattle.std.specs.Prelude.{◌≡◌, refl, List, Result, Err, Bool, true, false, length, get_or, ltb, eqb}
 use Rattle.std.proofs.Math.Path.{sym}
 use Rattle.std.proofs.Common.{◌∙◌, arith}
 use Prim.Native.Nat.{ℕ, zero, suc, ◌+◌, ◌-◌, ◌*◌, ◌/◌, ◌<◌, ◌≤◌, ◌^◌}
@@ -9,10 +9,15 @@ use Rattle.model.specs.Options.{pick}
 use Rattle.model.specs.Balanced.{btree, btree_split_index, grow}
 use Rattle.model.proofs.Laws.Balanced.{split_bounds, btree_leaves, btree_fork}
 use Rattle.num.specs.declared.Pow2Usize.{Pow2Usize}
-use Rattle.types.specs.Heads.{FairWidth, width_range}
-use Rattle.value.specs.Record.{starts}
+use Rattle.reply.specs.declared.Refusal.{Refusal}
+use Rattle.reply.specs.declared.Refusal.TheVariants.{NotOneValue}
+use Rattle.types.specs.declared.Head.{Head}
+use Rattle.types.specs.declared.Head.TheVariants.{Missing, Faulty, Never, Boolean, UInt, Either, Opt, Tuple, Array, Listed, Variants, Payload}
+use Rattle.types.specs.Heads.{width_range}
+use Rattle.value.specs.declared.Opens.{Opens}
+use Rattle.value.specs.Record.{starts, choice_at, count_at}
+use Rattle.value.specs.Opening.{by_choice, counted, uint_opens, list_opens, enum_opens, opens_of}
 use Rattle.value.specs.Lengths.{add, blocks, tags}
-use Rattle.value.specs.Opening.{hop}
 
 -- TESTS
 
@@ -23,15 +28,6 @@ starts_there s v k c x e f = go (ltb v (length s / 36)) refl (sym f ∙ e)
     go : (b : Bool) → ltb v (length s / 36) ≡ b → true ≡ pick b (pick (eqb (get_or s (v * 36) 0) k) (eqb (get_or s (v * 36 + 1) 0) c) false) false → v < length s / 36
     go true p h = ltb-true v (length s / 36) p
     go false p h = let z : ◌≡◌ {A = ℕ} 0 1 = cc in absurd (omega arith)
-
--- PLACES
-
-pub hop_on : (E : List ℕ) (n k q : ℕ) → k < n → hop E (n - (k + 1)) (get_or E q 0) ≡ hop E (n - k) q
-unfolding hop
-hop_on E n k q l = go (n - k) (n - (k + 1)) (omega arith)
-  where
-    go : (a b : ℕ) → a ≡ suc b → hop E b (get_or E q 0) ≡ hop E a q
-    go a b e = rw e
 
 -- LISTS
 
@@ -56,7 +52,25 @@ tags_none zero i k l = refl
 tags_none (suc zero) i k l = refl
 tags_none (suc (suc n)) i k l = absurd (omega arith)
 
+-- RECORDS
+
+-- past the file's end no value stands
+pub opens_past : (h : Head) (s : List ℕ) (v : ℕ) → length s / 36 ≤ v → Err NotOneValue ≡ opens_of h s v
+unfolding opens_of choice_at count_at starts by_choice counted uint_opens list_opens enum_opens
+opens_past Missing s v l = refl
+opens_past Faulty s v l = refl
+opens_past Never s v l = refl
+opens_past Boolean s v l = rw (le-ltb v (length s / 36) l)
+opens_past (UInt w) s v l = rw (le-ltb v (length s / 36) l)
+opens_past Either s v l = rw (le-ltb v (length s / 36) l)
+opens_past Opt s v l = rw (le-ltb v (length s / 36) l)
+opens_past (Tuple n) s v l = rw (le-ltb v (length s / 36) l)
+opens_past (Array n) s v l = rw (le-ltb v (length s / 36) l)
+opens_past (Listed b) s v l = rw (le-ltb v (length s / 36) l)
+opens_past (Variants n) s v l = rw (le-ltb v (length s / 36) l)
+opens_past (Payload n) s v l = refl
+
 -- KINDS
 
-pub width_small : (w : Pow2Usize) (n : ℕ) → FairWidth w → n ≡ w.0 → n ≤ 256
-width_small w n f e = let r = width_range w f in omega arith
+pub width_small : (w : Pow2Usize) (n : ℕ) → n ≡ w.value → n ≤ 256
+width_small w n e = let r = width_range w in omega arith

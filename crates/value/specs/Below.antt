@@ -119,7 +119,7 @@ module _ (s : List ℕ) (v w : ℕ) (h : v < length s / 36) (k : w ≤ 256) (c :
         split m o = let a : w ≡ w % 8 + 8 * m = omega arith in ap (λ n. 2 ^ n) a ∙ pow-add 2 (w % 8) (8 * m) ∙ ap (λ n. n * 2 ^ (8 * m)) (sym q)
 
 -- the bytes fit
-abbrev Bytes : List ℕ → Type 0
+abbrev pub Bytes : List ℕ → Type 0
 Bytes s = (i : ℕ) → Fits w8 (get_or s i 0)
 
 pub below_zero : (s : List ℕ) (v : ℕ) → v < length s / 36 → Bytes s → below s v 0 ≡ clear s (v * 36 + 4) 32

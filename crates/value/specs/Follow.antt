@@ -28,17 +28,18 @@ use Rattle.value.specs.declared.Opens.{Opens}
 use Rattle.value.specs.declared.Opens.TheVariants.{Run, Parts, Case}
 use Rattle.value.specs.Record.{starts, number_at, below, choice_at, count_at}
 use Rattle.value.specs.Lengths.{add, joints, blocks, tags}
-use Rattle.value.specs.Opening.{by_choice, counted, uint_opens, list_opens, enum_opens, opens_of, hop}
+use Rattle.value.specs.Opening.{by_choice, counted, uint_opens, list_opens, enum_opens, opens_of}
+use Rattle.table.specs.Hops.{hops, Hops}
 use Rattle.value.specs.Check.{wrong, side, says, next, run, check, checks, check_case, parts}
 use Rattle.value.specs.Arms.{starts_there}
-use Rattle.value.specs.Steps.{GivenIf, Here, rec_here, given_hop}
+use Rattle.value.specs.Steps.{GivenIf, Here, rec_here, given_hop, given_hops, no_hops}
 
 -- d levels are left for the children, the first of which stands at p
 unfoldable pub follow : ℕ → List ℕ → List ℕ → ℕ → List ℕ → ℕ → ℕ → Result Opens Refusal → Result (ℕ × ℕ) Refusal
 follow d s E p val v k (Err x) = Err x
-follow d s E p val v k (Ok (Run j n own)) = run (check (tree d s (hop E j p)) val) n (v + 1) (add k own)
+follow d s E p val v k (Ok (Run j n own)) = run (check (tree d s (hops E j p)) val) n (v + 1) (add k own)
 follow d s E p val v k (Ok (Parts n)) = parts (kids (tree d s) (walk d false s) n p) val (v + 1) k
-follow d s E p val v k (Ok (Case i own)) = parts (treev d s (hop E i p)) val (v + 1) (add k own)
+follow d s E p val v k (Ok (Case i own)) = parts (treev d s (hops E i p)) val (v + 1) (add k own)
 
 less_one : (n : ℕ) → suc n - 1 ≡ n
 less_one n = omega arith
@@ -64,17 +65,17 @@ module _ (d : ℕ) (s E : List ℕ) (val : List ℕ) (v k : ℕ) where
   pick_follow p x false o = refl
 
   -- the first child, and the second
-  first_child : (p j : ℕ) → run (check (tree d s (hop E 0 p)) val) 1 (v + 1) j ≡ check (tree d s p) val (v + 1) j
-  unfolding hop
+  first_child : (p j : ℕ) → run (check (tree d s (hops E 0 p)) val) 1 (v + 1) j ≡ check (tree d s p) val (v + 1) j
+  unfolding hops
   first_child p j = run_one (check (tree d s p) val) (v + 1) j
 
-  second_child : (p n j : ℕ) → 0 < n → GivenRow d false s E n p → run (check (tree d s (hop E 1 p)) val) 1 (v + 1) j ≡ check (tree d s (end_of (walk d false s p))) val (v + 1) j
-  unfolding hop
+  second_child : (p n j : ℕ) → 0 < n → GivenRow d false s E n p → run (check (tree d s (hops E 1 p)) val) 1 (v + 1) j ≡ check (tree d s (end_of (walk d false s p))) val (v + 1) j
+  unfolding hops
   second_child p n j l g = run_one (check (tree d s (get_or E p 0)) val) (v + 1) j ∙ ap (λ q. check (tree d s q) val (v + 1) j) (given_end (given_first (λ z. omega arith) g))
 
   -- the payload of Variant i of those from p on
-  case_in : (i n p j : ℕ) → i < suc n → GivenRow d true s E (suc n) p → check_case (cases (treev d s) (walk d true s) n p) i val (v + 1) j ≡ parts (treev d s (hop E i p)) val (v + 1) j
-  unfolding cases check_case hop parts
+  case_in : (i n p j : ℕ) → i < suc n → GivenRow d true s E (suc n) p → check_case (cases (treev d s) (walk d true s) n p) i val (v + 1) j ≡ parts (treev d s (hops E i p)) val (v + 1) j
+  unfolding cases check_case hops parts
   case_in zero zero p j l g = refl
   case_in zero (suc n) p j l g = refl
   case_in (suc i) zero p j l g = absurd (omega arith)
@@ -96,12 +97,12 @@ module _ (d : ℕ) (s E : List ℕ) (val : List ℕ) (v k : ℕ) where
     tuple_follow n (Some m) = ap (λ z. pick (eqb m z) (parts (kids (tree d s) (walk d false s) n p) val (v + 1) k) wrong) (size_kids (tree d s) (walk d false s) n p) ∙ pick_follow p NotOneValue (eqb m n) (Ok (Parts n))
 
     array_follow : (n : ℕ) (c : Option ℕ) → says c (λ m. pick (eqb m n) (run (check (tree d s p) val) n (v + 1) (add k (joints n))) wrong) ≡ follow d s E p val v k (counted c n (Run 0 n (joints n)))
-    unfolding says counted follow hop
+    unfolding says counted follow hops
     array_follow n None = refl
     array_follow n (Some m) = pick_follow p NotOneValue (eqb m n) (Ok (Run 0 n (joints n)))
 
     list_follow : (b : ℕ) (c : Option ℕ) → 2 ^ suc (bound_log2 b - 1) ≡ b → says c (λ m. pick (ltb m (2 ^ suc (bound_log2 b - 1))) (run (check (tree d s p) val) m (v + 1) (add k (blocks (bound_log2 b - 1) m 0))) (Err ListTooLong)) ≡ follow d s E p val v k (list_opens c b)
-    unfolding says list_opens follow hop
+    unfolding says list_opens follow hops
     list_follow b None e = refl
     list_follow b (Some m) e = ap (λ z. pick (ltb m z) (run (check (tree d s p) val) m (v + 1) (add k (blocks (bound_log2 b - 1) m 0))) (Err ListTooLong)) e ∙ pick_follow p ListTooLong (ltb m b) (Ok (Run 0 m (blocks (bound_log2 b - 1) m 0)))
 
@@ -132,12 +133,12 @@ module _ (d : ℕ) (s E : List ℕ) (val : List ℕ) (v k : ℕ) where
     node_follow Faulty f o g = absurd o
     node_follow Never f o g = pick_follow p NotOneValue false (Err NotOneValue)
     node_follow Boolean f o g = side_follow p (choice_at val v 1) (Run 0 0 2) (Run 0 0 2)
-    node_follow (UInt w) f o g = uint_follow w.0
+    node_follow (UInt w) f o g = uint_follow w.value
     node_follow Either f o g = ap₂ (λ x y. side (choice_at val v 3) x y) (sym (first_child p (add k 1))) (sym (second_child p 2 (add k 1) (omega arith) g)) ∙ side_follow p (choice_at val v 3) (Run 0 1 1) (Run 1 1 1)
     node_follow Opt f o g = ap (λ x. side (choice_at val v 4) (Ok ((v + 1), (add k 2))) x) (sym (first_child p (add k 1))) ∙ side_follow p (choice_at val v 4) (Run 0 0 2) (Run 0 1 1)
     node_follow (Tuple n) f o g = tuple_follow n (count_at val v 5)
     node_follow (Array n) f o g = array_follow n (count_at val v 6)
-    node_follow (Listed b) f o g = list_follow b.0 (count_at val v 7) (bound_of_fair b.0 f.exponent f.admitted)
+    node_follow (Listed b) f o g = list_follow b.value (count_at val v 7) (bound_of_fair b.value f.exponent f.admitted)
     node_follow (head.Variants zero) f o g = absurd (let z = f.0 in omega arith)
     node_follow (head.Variants (suc n)) f o g = ap (λ m. check (enum (cases (treev d s) (walk d true s) m p)) val v k) (less_one n) ∙ enum_follow n (count_at val v 8) g
     node_follow (Payload n) f o g = absurd o
@@ -146,9 +147,9 @@ module _ (d : ℕ) (s E : List ℕ) (val : List ℕ) (v k : ℕ) where
 
 abbrev Fit : ℕ → List ℕ → List ℕ → ℕ → List ℕ → ℕ → Result Opens Refusal → Type 0
 Fit d s E p val v (Err x) = Unit
-Fit d s E p val v (Ok (Run j n own)) = GivenIf n d s E (hop E j p) × (v < length val / 36)
+Fit d s E p val v (Ok (Run j n own)) = GivenIf n d s E (hops E j p) × (v < length val / 36) × Hops E j p
 Fit d s E p val v (Ok (Parts n)) = GivenRow d false s E n p × (v < length val / 36)
-Fit d s E p val v (Ok (Case i own)) = Given d true s E (hop E i p) × (v < length val / 36)
+Fit d s E p val v (Ok (Case i own)) = Given d true s E (hops E i p) × (v < length val / 36) × Hops E i p
 
 module _ (d : ℕ) (s E : List ℕ) (p : ℕ) (val : List ℕ) (v : ℕ) where
   pick_fit : (x : Refusal) (b : Bool) (o : Result Opens Refusal) → (b ≡ true → Fit d s E p val v o) → Fit d s E p val v (pick b o (Err x))
@@ -183,7 +184,7 @@ module _ (d : ℕ) (s E : List ℕ) (p : ℕ) (val : List ℕ) (v : ℕ) where
   none_of : (q : ℕ) → GivenIf 0 d s E q
   none_of q = record { there = λ h. absurd (h refl) }
 
-  some_of : (j n m : ℕ) → j < n → GivenRow d false s E n p → GivenIf m d s E (hop E j p)
+  some_of : (j n m : ℕ) → j < n → GivenRow d false s E n p → GivenIf m d s E (hops E j p)
   some_of j n m l g = record { there = λ h. given_hop d false s E j n p l g }
 
   fit : (h : Head) → GivenRow d (kind (calls_for h)) s E (unique.count (calls_for h)) p → Fit d s E p val v (opens_of h val v)
@@ -191,14 +192,14 @@ module _ (d : ℕ) (s E : List ℕ) (p : ℕ) (val : List ℕ) (v : ℕ) where
   fit Missing g = tt
   fit Faulty g = tt
   fit Never g = tt
-  fit Boolean g = choice_fit 1 (Run 0 0 2) (Run 0 0 2) (λ l. (none_of _, l)) (λ l. (none_of _, l))
-  fit (UInt w) g = pick_fit NotOneValue (starts val v 2 0) _ (λ e. pick_fit NotOneValue (eqb (number_at val v) w.0) _ (λ q. pick_fit IntegerTooLarge (below val v w.0) (Ok (Run 0 0 (joints w.0 + 2 * w.0))) (λ r. (none_of _, in_file 2 0 e))))
-  fit Either g = choice_fit 3 (Run 0 1 1) (Run 1 1 1) (λ l. (some_of 0 2 1 (omega arith) g, l)) (λ l. (some_of 1 2 1 (omega arith) g, l))
-  fit Opt g = choice_fit 4 (Run 0 0 2) (Run 0 1 1) (λ l. (none_of _, l)) (λ l. (some_of 0 1 1 (omega arith) g, l))
+  fit Boolean g = choice_fit 1 (Run 0 0 2) (Run 0 0 2) (λ l. (none_of _, l, no_hops E p)) (λ l. (none_of _, l, no_hops E p))
+  fit (UInt w) g = pick_fit NotOneValue (starts val v 2 0) _ (λ e. pick_fit NotOneValue (eqb (number_at val v) w.value) _ (λ q. pick_fit IntegerTooLarge (below val v w.value) (Ok (Run 0 0 (joints w.value + 2 * w.value))) (λ r. (none_of _, in_file 2 0 e, no_hops E p))))
+  fit Either g = choice_fit 3 (Run 0 1 1) (Run 1 1 1) (λ l. (some_of 0 2 1 (omega arith) g, l, given_hops d false s E 0 2 p (omega arith) g)) (λ l. (some_of 1 2 1 (omega arith) g, l, given_hops d false s E 1 2 p (omega arith) g))
+  fit Opt g = choice_fit 4 (Run 0 0 2) (Run 0 1 1) (λ l. (none_of _, l, no_hops E p)) (λ l. (some_of 0 1 1 (omega arith) g, l, given_hops d false s E 0 1 p (omega arith) g))
   fit (Tuple n) g = count_fit 5 (λ c. counted c n (Parts n)) tt (λ m l. pick_fit NotOneValue (eqb m n) (Ok (Parts n)) (λ e. (g, l)))
-  fit (Array n) g = count_fit 6 (λ c. counted c n (Run 0 n (joints n))) tt (λ m l. pick_fit NotOneValue (eqb m n) (Ok (Run 0 n (joints n))) (λ e. (some_of 0 1 n (omega arith) g, l)))
-  fit (Listed b) g = count_fit 7 (λ c. list_opens c b.0) tt (λ m l. pick_fit ListTooLong (ltb m b.0) (Ok (Run 0 m (blocks (bound_log2 b.0 - 1) m 0))) (λ e. (some_of 0 1 m (omega arith) g, l)))
-  fit (head.Variants n) g = count_fit 8 (λ c. enum_opens c n) tt (λ i l. pick_fit NotOneValue (ltb i n) (Ok (Case i (tags (btree n) i 0))) (λ e. (given_hop d true s E i n p (ltb-true i n e) g, l)))
+  fit (Array n) g = count_fit 6 (λ c. counted c n (Run 0 n (joints n))) tt (λ m l. pick_fit NotOneValue (eqb m n) (Ok (Run 0 n (joints n))) (λ e. (some_of 0 1 n (omega arith) g, l, given_hops d false s E 0 1 p (omega arith) g)))
+  fit (Listed b) g = count_fit 7 (λ c. list_opens c b.value) tt (λ m l. pick_fit ListTooLong (ltb m b.value) (Ok (Run 0 m (blocks (bound_log2 b.value - 1) m 0))) (λ e. (some_of 0 1 m (omega arith) g, l, given_hops d false s E 0 1 p (omega arith) g)))
+  fit (head.Variants n) g = count_fit 8 (λ c. enum_opens c n) tt (λ i l. pick_fit NotOneValue (ltb i n) (Ok (Case i (tags (btree n) i 0))) (λ e. (given_hop d true s E i n p (ltb-true i n e) g, l, given_hops d true s E i n p (let l = ltb-true i n e in omega arith) g)))
   fit (Payload n) g = tt
 
 -- IN THE FORM OF THE NEEDS
@@ -234,10 +235,13 @@ module _ {d : ℕ} {s E : List ℕ} {at : ℕ} (h : Head) (o : Result Opens Refu
         go (Case i own) f = let m = f.1 in omega arith
 
     module _ (j n own : ℕ) (f : r ≡ Run j n own) where
-      pub run_given : (p : ℕ) → p ≡ hop E j (at + 1) → GivenIf n (d - 1) s E p
+      pub run_given : (p : ℕ) → p ≡ hops E j (at + 1) → GivenIf n (d - 1) s E p
       run_given p q = rw q (rw f at here).0
 
-      pub run_is : (p k i : ℕ) (b : Result (ℕ × ℕ) Refusal) → p ≡ hop E j (at + 1) → i ≡ add k own → b ≡ run (check (tree (d - 1) s p) val) n (v + 1) i → b ≡ check (tree d s at) val v k
+      pub run_hops : Hops E j (at + 1)
+      run_hops = (rw f at here).2
+
+      pub run_is : (p k i : ℕ) (b : Result (ℕ × ℕ) Refusal) → p ≡ hops E j (at + 1) → i ≡ add k own → b ≡ run (check (tree (d - 1) s p) val) n (v + 1) i → b ≡ check (tree d s at) val v k
       unfolding follow
       run_is p k i b q a c = c ∙ sym (said k ∙ rw (f, ← q, ← a))
 
@@ -250,9 +254,12 @@ module _ {d : ℕ} {s E : List ℕ} {at : ℕ} (h : Head) (o : Result Opens Refu
       parts_is k b c = c ∙ sym (said k ∙ rw f)
 
     module _ (i own : ℕ) (f : r ≡ Case i own) where
-      pub case_given : (p : ℕ) → p ≡ hop E i (at + 1) → Given (d - 1) true s E p
+      pub case_given : (p : ℕ) → p ≡ hops E i (at + 1) → Given (d - 1) true s E p
       case_given p q = rw q (rw f at here).0
 
-      pub case_is : (p k j : ℕ) (b : Result (ℕ × ℕ) Refusal) → p ≡ hop E i (at + 1) → j ≡ add k own → b ≡ parts (treev (d - 1) s p) val (v + 1) j → b ≡ check (tree d s at) val v k
+      pub case_hops : Hops E i (at + 1)
+      case_hops = (rw f at here).2
+
+      pub case_is : (p k j : ℕ) (b : Result (ℕ × ℕ) Refusal) → p ≡ hops E i (at + 1) → j ≡ add k own → b ≡ parts (treev (d - 1) s p) val (v + 1) j → b ≡ check (tree d s at) val v k
       unfolding follow
       case_is p k j b q a c = c ∙ sym (said k ∙ rw (f, ← q, ← a))

@@ -25,11 +25,6 @@ byte_of kinds.Array = 6
 byte_of kinds.Listed = 7
 byte_of kinds.Variants = 8
 
--- the place after i subtrees
-unfoldable pub hop : List ℕ → ℕ → ℕ → ℕ
-hop E zero p = p
-hop E (suc i) p = hop E i (get_or E p 0)
-
 unfoldable pub by_choice : Option Bool → Opens → Opens → Result Opens Refusal
 by_choice (Some false) a b = Ok a
 by_choice (Some true) a b = Ok b
@@ -55,11 +50,11 @@ opens_of Missing s v = Err NotOneValue
 opens_of Faulty s v = Err NotOneValue
 opens_of Never s v = Err NotOneValue
 opens_of Boolean s v = by_choice (choice_at s v 1) (Run 0 0 2) (Run 0 0 2)
-opens_of (UInt w) s v = uint_opens w.0 s v
+opens_of (UInt w) s v = uint_opens w.value s v
 opens_of Either s v = by_choice (choice_at s v 3) (Run 0 1 1) (Run 1 1 1)
 opens_of Opt s v = by_choice (choice_at s v 4) (Run 0 0 2) (Run 0 1 1)
 opens_of (Tuple n) s v = counted (count_at s v 5) n (Parts n)
 opens_of (Array n) s v = counted (count_at s v 6) n (Run 0 n (joints n))
-opens_of (Listed b) s v = list_opens (count_at s v 7) b.0
+opens_of (Listed b) s v = list_opens (count_at s v 7) b.value
 opens_of (Variants n) s v = enum_opens (count_at s v 8) n
 opens_of (Payload n) s v = Err NotOneValue

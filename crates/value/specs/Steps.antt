@@ -12,11 +12,11 @@ use Rattle.types.specs.Record.{rec_at}
 use Rattle.types.specs.Walks.{opens, walk}
 use Rattle.types.specs.Unique.{bad_end}
 use Rattle.types.specs.Trees.{kids, payload, tree, treev}
-use Rattle.types.specs.Steps.{Given, GivenRow, given_levels, given_within, given_below, given_first, given_end, given_rest, treev_in, kids_more}
+use Rattle.types.specs.Steps.{Given, GivenRow, given_levels, given_within, given_inside, given_below, given_first, given_end, given_rest, treev_in, kids_more}
 use Rattle.reply.specs.declared.Refusal.{Refusal}
 use Rattle.model.specs.Types.{nil, cons}
 use Rattle.value.specs.Check.{next, run, check, checks, parts}
-use Rattle.value.specs.Opening.{hop}
+use Rattle.table.specs.Hops.{hops, Hops}
 
 -- a type stands here, if a value of it is called for
 pub record GivenIf (n d : ℕ) (s E : List ℕ) (at : ℕ) : Type 0 where
@@ -29,10 +29,17 @@ pub deep_enough : {d : ℕ} {v : Bool} {s E : List ℕ} {at : ℕ} → Given d v
 deep_enough {d} g = let m = given_levels g in omega arith
 
 -- the subtree after i others
-pub given_hop : (d : ℕ) (v : Bool) (s E : List ℕ) (i n at : ℕ) → i < n → GivenRow d v s E n at → Given d v s E (hop E i at)
-unfolding hop
+pub given_hop : (d : ℕ) (v : Bool) (s E : List ℕ) (i n at : ℕ) → i < n → GivenRow d v s E n at → Given d v s E (hops E i at)
+unfolding hops
 given_hop d v s E zero n at l g = given_first (λ z. omega arith) g
 given_hop d v s E (suc i) n at l g = given_hop d v s E i (n - 1) (get_or E at 0) (omega arith) (given_rest (λ z. omega arith) g)
+
+-- the places that are passed on the way
+pub given_hops : (d : ℕ) (v : Bool) (s E : List ℕ) (i n at : ℕ) → i ≤ n → GivenRow d v s E n at → Hops E i at
+given_hops d v s E i n at l g = record { each = λ j m. given_inside (given_hop d v s E j n at (omega arith) g) }
+
+pub no_hops : (E : List ℕ) (p : ℕ) → Hops E 0 p
+no_hops E p = record { each = λ i l. absurd (omega arith) }
 
 pub given_payload : {d : ℕ} {v : Bool} {s E : List ℕ} {at : ℕ} (h : Rec) (n : ℕ) → Given d v s E at → h ≡ rec_at s at → h ≡ Variant n → GivenRow (d - 1) false s E n (at + 1)
 given_payload h n g p e = given_below (Variant n) g p e

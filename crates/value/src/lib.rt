@@ -5,28 +5,29 @@
 ghost use Rattle.std.specs.Prelude.{get_or, ◌≡◌, true, false, ◌≤◌, ◌<◌, ◌+◌, ◌*◌, ◌/◌, ◌^◌, length};
 ghost use Rattle.model.specs.Balanced.{btree};
 ghost use Rattle.types.specs.Entries.{ends};
-ghost use Rattle.types.specs.Heads.{Fair, FairWidth, FairBound};
+ghost use Rattle.types.specs.Heads.{Fair};
 ghost use Rattle.types.specs.Steps.{Given, GivenRow};
 ghost use Rattle.types.specs.Trees.{tree, treev, kids};
 ghost use Rattle.types.specs.Walks.{walk};
 ghost use Rattle.value.specs.Record.{starts, number_at, below, clear, choice_at, count_at};
+ghost use Rattle.value.specs.Below.{Bytes};
 ghost use Rattle.value.specs.Lengths.{add, joints, blocks, tags};
-ghost use Rattle.value.specs.Opening.{byte_of, by_choice, counted, uint_opens, list_opens, enum_opens, opens_of, hop};
+ghost use Rattle.value.specs.Opening.{byte_of, by_choice, counted, uint_opens, list_opens, enum_opens, opens_of};
 ghost use Rattle.value.specs.Check.{check, parts, run, file_answer};
 ghost use Rattle.value.specs.Steps.{GivenIf};
 
 use array::btree_split_index;
 use num::{NonZeroPow2Usize, Pow2Usize};
 use reply::Refusal;
-use table::cut_off;
-use types::{Entry, Head, Rec, Table, head_at, rec_at};
+use table::{cut_off, hop};
+use types::{Head, LEVELS, Rec, Table};
 
-// The levels that a type may have.
-const LEVELS: usize = 32;
+// The bytes of a record of a value file.
+pub const RECORD: usize = 36;
 
-// The kind of a record, as the file's first byte says it.
+// The kind of a record, as the file's first byte says it; `as` is the one way from it to the byte that needs no second list of the numbers.
 #[derive(Clone, Copy)]
-enum Kind {
+pub enum Kind {
     Boolean = 1,
     UInt = 2,
     Either = 3,
@@ -37,20 +38,42 @@ enum Kind {
     Variants = 8,
 }
 
-// What a record of a value file calls for: n values of the type's child j, or n parts, or the payload of Variant i, the last number being how many records of the shape are its own.
+// What a record of a value file calls for; `own` is how many records of the shape are its own.
 #[derive(Clone, Copy)]
 enum Opens {
-    Run(usize, usize, usize),
+    // so many values of the type's child
+    Run {
+        child: usize,
+        count: usize,
+        own: usize,
+    },
+    // so many parts
     Parts(usize),
-    Case(usize, usize),
+    // the payload of the Variant
+    Case {
+        variant: usize,
+        own: usize,
+    },
 }
 
-// A byte as a number.
-pub fn wide(x: u8) -> usize
-    ensures { (result ≡ x) × (result < 256) }
-{
-    x as usize
-}
+// No value behind the record, which has two records of the shape; or one, of the type's first or second child, behind one record of the shape.
+const NO_CHILD: Opens = Opens::Run {
+    child: 0,
+    count: 0,
+    own: 2,
+};
+
+const FIRST_CHILD: Opens = Opens::Run {
+    child: 0,
+    count: 1,
+    own: 1,
+};
+
+const SECOND_CHILD: Opens = Opens::Run {
+    child: 1,
+    count: 1,
+    own: 1,
+};
 
 // The sum of two lengths, cut.
 #[tactic(auto, unfolding(crate::specs::Lengths::add))]
@@ -100,43 +123,6 @@ fn enum_tags(n: usize, i: usize, k: usize) -> usize
     enum_tags(n - h, i - h, sum(k, 1))
 }
 
-// The record after the subtree of record i; 0 past the table's end.
-fn end_at(entries: &[Entry], i: usize) -> usize
-    ensures { result ≡ get_or (ends entries.now) i 0 }
-{
-    if i < entries.len() { entries[i].end } else { 0 }
-}
-
-// The place after i subtrees from p on; 0 past the table's end.
-#[tactic(auto, using(crate::specs::Arms::hop_on), unfolding(crate::specs::Opening::hop))]
-fn hop_over(entries: &[Entry], p: usize, i: usize) -> usize
-    ensures { result ≡ hop (ends entries.now) i p }
-{
-    let mut q = p;
-    for _ in 0..i {
-        q = end_at(entries, q);
-    }
-    q
-}
-
-// The number in bytes 2 and 3 of record v.
-#[tactic(auto, unfolding(crate::specs::Record::number_at))]
-pub fn number_of(val: &[u8], v: usize) -> usize
-    requires { v < length val.now / 36 }
-    ensures { result ≡ number_at val.now v }
-{
-    let b = v * 36;
-    usize::from(val[b + 2]) * 256 + usize::from(val[b + 3])
-}
-
-// Is record v there, with this kind and choice?
-#[tactic(auto, unfolding(crate::specs::Record::starts))]
-fn starts_with(val: &[u8], v: usize, kind: Kind, choice: u8) -> bool
-    ensures { result ≡ starts val.now v (byte_of kind) choice }
-{
-    v < val.len() / 36 && val[v * 36] == kind as u8 && val[v * 36 + 1] == choice
-}
-
 // Are the n bytes from place b on zero?
 #[tactic(auto, using(crate::specs::Clear::clear_joined), unfolding(crate::specs::Record::clear))]
 fn is_clear(val: &[u8], b: usize, n: usize) -> bool
@@ -150,61 +136,146 @@ fn is_clear(val: &[u8], b: usize, n: usize) -> bool
     any == 0
 }
 
-// Are the first n bytes of the integer of record v zero? Runs of a fixed length are the quickest to look at, and two that overlap are as good as one.
-#[tactic(auto, using(crate::specs::Clear::clear_long))]
-fn lead_is_clear(val: &[u8], v: usize, n: usize) -> bool
-    requires { (v < length val.now / 36) × (n ≤ 32) }
-    ensures { result ≡ clear val.now (v * 36 + 4) n }
-{
-    let b = v * 36 + 4;
-    if n < 16 {
-        return is_clear(val, b, n);
+// Record v of a value file, which is there.
+#[derive(Clone, Copy)]
+pub struct ValueRecord<'a> {
+    val: &'a [u8],
+    v: usize,
+    ghost there: { v < length val.now / 36 },
+    // what the check knows of a slice that is lent, but not of one in a struct
+    ghost bytes: { Bytes val.now },
+}
+
+impl<'a> ValueRecord<'a> {
+    // Record v of the file.
+    pub fn new(val: &'a [u8], v: usize) -> ValueRecord<'a>
+        requires { v < length val.now / 36 }
+        ensures { (result.val.now ≡ val.now) × (result.v ≡ v) }
+    {
+        ValueRecord { val, v }
     }
-    is_clear(val, b, 16) && is_clear(val, b + (n - 16), 16)
-}
 
-// Is the integer of record v below 2 ^ w?
-#[tactic(auto, using(crate::specs::Below::below_lead))]
-fn is_below(val: &[u8], v: usize, w: usize) -> bool
-    requires { (v < length val.now / 36) × (w ≤ 256) }
-    ensures { result ≡ below val.now v w }
-{
-    let lead = 32 - (w + 7) / 8;
-    let r = w % 8;
-    lead_is_clear(val, v, lead) && (r == 0 || usize::from(val[v * 36 + 4 + lead]) < 1 << r)
-}
-
-// Is the integer of record v zero?
-#[tactic(auto, using(crate::specs::Below::below_zero))]
-fn is_zero(val: &[u8], v: usize) -> bool
-    requires { v < length val.now / 36 }
-    ensures { result ≡ below val.now v 0 }
-{
-    is_clear(val, v * 36 + 4, 32)
-}
-
-// The choice of record v, if it is of this kind and all else in it is zero.
-#[tactic(auto, unfolding(crate::specs::Record::choice_at, crate::specs::Record::starts))]
-fn choice_of(val: &[u8], v: usize, kind: Kind) -> Option<bool>
-    ensures { result ≡ choice_at val.now v (byte_of kind) }
-{
-    let one = starts_with(val, v, kind, 1);
-    if (one || starts_with(val, v, kind, 0)) && number_of(val, v) == 0 && is_zero(val, v) {
-        Some(one)
-    } else {
-        None
+    // Its choice, byte 1.
+    pub fn choice(&self) -> u8
+        ensures { result ≡ get_or self.now.val.now (self.now.v * 36 + 1) 0 }
+    {
+        self.val[self.v * RECORD + 1]
     }
-}
 
-// The number of record v, if it is of this kind and all else in it is zero.
-#[tactic(auto, unfolding(crate::specs::Record::count_at, crate::specs::Record::starts))]
-fn count_of(val: &[u8], v: usize, kind: Kind) -> Option<usize>
-    ensures { result ≡ count_at val.now v (byte_of kind) }
-{
-    if starts_with(val, v, kind, 0) && is_zero(val, v) {
-        Some(number_of(val, v))
-    } else {
-        None
+    // Its number, bytes 2 and 3.
+    #[tactic(auto, unfolding(crate::specs::Record::number_at))]
+    pub fn number(&self) -> usize
+        ensures { result ≡ number_at self.now.val.now self.now.v }
+    {
+        let b = self.v * RECORD;
+        usize::from(u16::from_be_bytes([self.val[b + 2], self.val[b + 3]]))
+    }
+
+    // Is it of this kind and choice?
+    #[tactic(auto, unfolding(crate::specs::Record::starts))]
+    fn starts_with(&self, kind: Kind, choice: u8) -> bool
+        ensures { result ≡ starts self.now.val.now self.now.v (byte_of kind) choice }
+    {
+        self.val[self.v * RECORD] == kind as u8 && self.choice() == choice
+    }
+
+    // Are the first n bytes of its integer zero? Runs of a fixed length are the quickest to look at, and two that overlap are as good as one.
+    #[tactic(auto, using(crate::specs::Clear::clear_long))]
+    fn lead_is_clear(&self, n: usize) -> bool
+        requires { n ≤ 32 }
+        ensures { result ≡ clear self.now.val.now (self.now.v * 36 + 4) n }
+    {
+        let b = self.v * RECORD + 4;
+        if n < 16 {
+            return is_clear(self.val, b, n);
+        }
+        is_clear(self.val, b, 16) && is_clear(self.val, b + (n - 16), 16)
+    }
+
+    // Is its integer below 2 ^ w?
+    #[tactic(auto, using(crate::specs::Below::below_lead))]
+    fn is_below(&self, w: usize) -> bool
+        requires { w ≤ 256 }
+        ensures { result ≡ below self.now.val.now self.now.v w }
+    {
+        let lead = 32 - w.div_ceil(8);
+        let r = w % 8;
+        self.lead_is_clear(lead)
+            && (r == 0 || usize::from(self.val[self.v * RECORD + 4 + lead]) < 1 << r)
+    }
+
+    // Is its integer zero?
+    #[tactic(auto, using(crate::specs::Below::below_zero))]
+    fn is_zero(&self) -> bool
+        ensures { result ≡ below self.now.val.now self.now.v 0 }
+    {
+        is_clear(self.val, self.v * RECORD + 4, 32)
+    }
+
+    // Its choice, if it is of this kind and all else in it is zero.
+    #[tactic(auto, unfolding(crate::specs::Record::choice_at, crate::specs::Record::starts))]
+    fn choice_of(&self, kind: Kind) -> Option<bool>
+        ensures { result ≡ choice_at self.now.val.now self.now.v (byte_of kind) }
+    {
+        let one = self.starts_with(kind, 1);
+        let told = one || self.starts_with(kind, 0);
+        (told && self.number() == 0 && self.is_zero()).then_some(one)
+    }
+
+    // Its number, if it is of this kind and all else in it is zero.
+    #[tactic(auto, unfolding(crate::specs::Record::count_at, crate::specs::Record::starts))]
+    fn count_of(&self, kind: Kind) -> Option<usize>
+        ensures { result ≡ count_at self.now.val.now self.now.v (byte_of kind) }
+    {
+        (self.starts_with(kind, 0) && self.is_zero()).then_some(self.number())
+    }
+
+    // A UInt of w bits: a product of w bits, each of two records. An integer too large for them is refused last.
+    #[tactic(auto, using(types::specs::Heads::width_range), unfolding(crate::specs::Opening::uint_opens, crate::specs::Record::starts, crate::specs::Lengths::joints))]
+    fn open_uint(&self, w: Pow2Usize) -> Result<Opens, Refusal>
+        ensures { result ≡ uint_opens w.value self.now.val.now self.now.v }
+    {
+        let n = w.get();
+        if !self.starts_with(Kind::UInt, 0) || self.number() != n {
+            return Err(Refusal::NotOneValue);
+        }
+        if !self.is_below(n) {
+            return Err(Refusal::IntegerTooLarge);
+        }
+        Ok(Opens::Run {
+            child: 0,
+            count: 0,
+            own: joints_of(n) + 2 * n,
+        })
+    }
+
+    // What it calls for as a value of a type whose record says this.
+    #[tactic(auto, unfolding(crate::specs::Opening::opens_of))]
+    fn open(&self, h: Head) -> Result<Opens, Refusal>
+        requires { Fair h }
+        ensures { result ≡ opens_of h self.now.val.now self.now.v }
+    {
+        match h {
+            Head::Missing | Head::Faulty | Head::Never | Head::Payload(_) => {
+                Err(Refusal::NotOneValue)
+            }
+            Head::Boolean => on_choice(self.choice_of(Kind::Boolean), NO_CHILD, NO_CHILD),
+            Head::UInt(w) => self.open_uint(w),
+            Head::Either => on_choice(self.choice_of(Kind::Either), FIRST_CHILD, SECOND_CHILD),
+            Head::Opt => on_choice(self.choice_of(Kind::Opt), NO_CHILD, FIRST_CHILD),
+            Head::Tuple(n) => on_count(self.count_of(Kind::Tuple), n, Opens::Parts(n)),
+            Head::Array(n) => on_count(
+                self.count_of(Kind::Array),
+                n,
+                Opens::Run {
+                    child: 0,
+                    count: n,
+                    own: joints_of(n),
+                },
+            ),
+            Head::Listed(b) => open_list(self.count_of(Kind::Listed), b),
+            Head::Variants(n) => open_enum(self.count_of(Kind::Variants), n),
+        }
     }
 }
 
@@ -221,6 +292,7 @@ fn on_choice(c: Option<bool>, zero: Opens, one: Opens) -> Result<Opens, Refusal>
 }
 
 // What is called for if the number is n; `NotOneValue` refuses where it is not.
+// A List and an Enum have functions of their own: no two of the three have limit, test and refusal in common, and what they share is the `match`.
 #[tactic(auto, unfolding(crate::specs::Opening::counted))]
 fn on_count(c: Option<usize>, n: usize, o: Opens) -> Result<Opens, Refusal>
     ensures { result ≡ counted c n o }
@@ -231,31 +303,18 @@ fn on_count(c: Option<usize>, n: usize, o: Opens) -> Result<Opens, Refusal>
     }
 }
 
-// A UInt of w bits at record v: a product of w bits, each of two records. An integer too large for them is refused last.
-#[tactic(auto, using(types::specs::Heads::width_range), unfolding(crate::specs::Opening::uint_opens, crate::specs::Record::starts, crate::specs::Lengths::joints))]
-fn open_uint(val: &[u8], v: usize, w: Pow2Usize) -> Result<Opens, Refusal>
-    requires { FairWidth w }
-    ensures { result ≡ uint_opens w.0 val.now v }
-{
-    let n = w.get();
-    if !starts_with(val, v, Kind::UInt, 0) || number_of(val, v) != n {
-        return Err(Refusal::NotOneValue);
-    }
-    if !is_below(val, v, n) {
-        return Err(Refusal::IntegerTooLarge);
-    }
-    Ok(Opens::Run(0, 0, joints_of(n) + 2 * n))
-}
-
 // A List with the bound b whose record says this number. One at or above the bound is refused last.
-#[tactic(auto, using(types::specs::Heads::log_range), unfolding(crate::specs::Opening::list_opens))]
+#[tactic(auto, using(types::specs::Heads::admitted_log), unfolding(crate::specs::Opening::list_opens))]
 fn open_list(c: Option<usize>, b: NonZeroPow2Usize) -> Result<Opens, Refusal>
-    requires { FairBound b }
-    ensures { result ≡ list_opens c b.0 }
+    ensures { result ≡ list_opens c b.value }
 {
     let m = c.ok_or(Refusal::NotOneValue)?;
     if m < b.get() {
-        Ok(Opens::Run(0, m, list_blocks(b.log2() - 1, m, 0)))
+        Ok(Opens::Run {
+            child: 0,
+            count: m,
+            own: list_blocks(b.log2() - 1, m, 0),
+        })
     } else {
         Err(Refusal::ListTooLong)
     }
@@ -268,56 +327,39 @@ fn open_enum(c: Option<usize>, n: usize) -> Result<Opens, Refusal>
     ensures { result ≡ enum_opens c n }
 {
     match c {
-        Some(i) if i < n => Ok(Opens::Case(i, enum_tags(n, i, 0))),
+        Some(i) if i < n => Ok(Opens::Case {
+            variant: i,
+            own: enum_tags(n, i, 0),
+        }),
         _ => Err(Refusal::NotOneValue),
     }
 }
 
-// What record v calls for as a value of a type whose record says this.
-#[tactic(auto, unfolding(crate::specs::Opening::opens_of))]
+// What record v calls for as a value of a type whose record says this; `NotOneValue` refuses where there is none.
+#[tactic(auto, using(crate::specs::Arms::opens_past))]
 fn open_record(h: Head, val: &[u8], v: usize) -> Result<Opens, Refusal>
     requires { Fair h }
     ensures { result ≡ opens_of h val.now v }
 {
-    match h {
-        Head::Missing | Head::Faulty | Head::Never | Head::Payload(_) => Err(Refusal::NotOneValue),
-        Head::Boolean => on_choice(
-            choice_of(val, v, Kind::Boolean),
-            Opens::Run(0, 0, 2),
-            Opens::Run(0, 0, 2),
-        ),
-        Head::UInt(w) => open_uint(val, v, w),
-        Head::Either => on_choice(
-            choice_of(val, v, Kind::Either),
-            Opens::Run(0, 1, 1),
-            Opens::Run(1, 1, 1),
-        ),
-        Head::Opt => on_choice(
-            choice_of(val, v, Kind::Opt),
-            Opens::Run(0, 0, 2),
-            Opens::Run(0, 1, 1),
-        ),
-        Head::Tuple(n) => on_count(count_of(val, v, Kind::Tuple), n, Opens::Parts(n)),
-        Head::Array(n) => on_count(
-            count_of(val, v, Kind::Array),
-            n,
-            Opens::Run(0, n, joints_of(n)),
-        ),
-        Head::Listed(b) => open_list(count_of(val, v, Kind::Listed), b),
-        Head::Variants(n) => open_enum(count_of(val, v, Kind::Variants), n),
+    if v < val.len() / RECORD {
+        ValueRecord::new(val, v).open(h)
+    } else {
+        Err(Refusal::NotOneValue)
     }
 }
 
 // A value file, and the type file that it is read by, with its table.
 #[derive(Clone, Copy)]
 struct Files<'a> {
-    ty: &'a [u8],
-    entries: &'a [Entry],
+    table: Table<'a>,
     val: &'a [u8],
+    // what the check knows of a slice that is lent, but not of one in a struct inside another
+    ghost small: { length table.ty.now < 2 ^ 64 },
 }
 
 impl Files<'_> {
     // Where the value that starts at record v ends, of the type at place `at` with `level` levels; `shape` records of the shape stand before it.
+    #[tactic(auto, using(crate::specs::Follow::run_is, crate::specs::Follow::parts_is, crate::specs::Follow::case_is))]
     #[cycle(check)]
     fn check_value(
         &self,
@@ -326,18 +368,20 @@ impl Files<'_> {
         v: usize,
         shape: usize,
     ) -> Result<(usize, usize), Refusal>
-        requires { Given level false self.now.ty.now (ends self.now.entries.now) at }
-        ensures { result ≡ check (tree level self.now.ty.now at) self.now.val.now v shape }
+        requires { Given level false self.now.table.ty.now (ends self.now.table.entries.now) at }
+        ensures { result ≡ check (tree level self.now.table.ty.now at) self.now.val.now v shape }
     {
-        let opens = open_record(head_at(self.ty, at), self.val, v)?;
+        let opens = open_record(self.table.head(at), self.val, v)?;
         let (at, level, v) = (at + 1, level - 1, v + 1);
         match opens {
-            Opens::Run(j, n, own) => {
-                self.check_run(hop_over(self.entries, at, j), level, n, v, sum(shape, own))
+            Opens::Run { child, count, own } => {
+                let child = hop(&self.table, at, child);
+                self.check_run(child, level, count, v, sum(shape, own))
             }
             Opens::Parts(n) => self.check_parts(at, level, n, v, shape),
-            Opens::Case(i, own) => {
-                self.check_payload(hop_over(self.entries, at, i), level, v, sum(shape, own))
+            Opens::Case { variant, own } => {
+                let variant = hop(&self.table, at, variant);
+                self.check_payload(variant, level, v, sum(shape, own))
             }
         }
     }
@@ -353,8 +397,8 @@ impl Files<'_> {
         v: usize,
         shape: usize,
     ) -> Result<(usize, usize), Refusal>
-        requires { GivenIf n level self.now.ty.now (ends self.now.entries.now) at }
-        ensures { result ≡ run (check (tree level self.now.ty.now at) self.now.val.now) n v shape }
+        requires { GivenIf n level self.now.table.ty.now (ends self.now.table.entries.now) at }
+        ensures { result ≡ run (check (tree level self.now.table.ty.now at) self.now.val.now) n v shape }
     {
         let mut e = v;
         let mut size = shape;
@@ -365,6 +409,7 @@ impl Files<'_> {
     }
 
     // A tuple's n parts, of the types from place `at` on, from record v on.
+    // Each step goes to the next type, where a run stays: the row of types and the one type are promised by two definitions, `parts` and `run`.
     #[tactic(auto, using(crate::specs::Steps::given_next, crate::specs::Steps::given_left, crate::specs::Steps::kids_step, crate::specs::Steps::kids_done, types::specs::Steps::size_kids), unfolding(crate::specs::Check::parts, crate::specs::Check::checks, crate::specs::Check::next))]
     #[cycle(check)]
     fn check_parts(
@@ -375,20 +420,21 @@ impl Files<'_> {
         v: usize,
         shape: usize,
     ) -> Result<(usize, usize), Refusal>
-        requires { GivenRow level false self.now.ty.now (ends self.now.entries.now) n at }
-        ensures { result ≡ parts (kids (tree level self.now.ty.now) (walk level false self.now.ty.now) n at) self.now.val.now v shape }
+        requires { GivenRow level false self.now.table.ty.now (ends self.now.table.entries.now) n at }
+        ensures { result ≡ parts (kids (tree level self.now.table.ty.now) (walk level false self.now.table.ty.now) n at) self.now.val.now v shape }
     {
         let mut p = at;
         let mut e = v;
         let mut size = sum(shape, joints_of(n));
         for _ in 0..n {
             (e, size) = self.check_value(p, level, e, size)?;
-            p = end_at(self.entries, p);
+            p = self.table.end(p);
         }
         Ok((e, size))
     }
 
     // The payload of the Variant at place `at`, from record v on.
+    #[tactic(auto, using(crate::specs::Steps::payload_is))]
     #[cycle(check)]
     fn check_payload(
         &self,
@@ -397,10 +443,10 @@ impl Files<'_> {
         v: usize,
         shape: usize,
     ) -> Result<(usize, usize), Refusal>
-        requires { Given level true self.now.ty.now (ends self.now.entries.now) at }
-        ensures { result ≡ parts (treev level self.now.ty.now at) self.now.val.now v shape }
+        requires { Given level true self.now.table.ty.now (ends self.now.table.entries.now) at }
+        ensures { result ≡ parts (treev level self.now.table.ty.now at) self.now.val.now v shape }
     {
-        let Rec::Variant(n) = rec_at(self.ty, at) else {
+        let Rec::Variant(n) = self.table.rec(at) else {
             unreachable!()
         };
         self.check_parts(at + 1, level - 1, n, v, shape)
@@ -419,16 +465,12 @@ pub fn check_part(
     ensures { result ≡ file_answer (tree level table.now.ty.now at) val.now }
 {
     let n = val.len();
-    if n == 0 || n % 36 != 0 {
+    if n == 0 || n % RECORD != 0 {
         return Err(Refusal::ValueLength);
     }
-    let (e, size) = Files {
-        ty: table.ty,
-        entries: table.entries,
-        val,
-    }
-    .check_value(at, level, 0, 0)?;
-    if e == n / 36 {
+    let files = Files { table: *table, val };
+    let (e, size) = files.check_value(at, level, 0, 0)?;
+    if e == n / RECORD {
         Ok((e, size))
     } else {
         Err(Refusal::NotOneValue)

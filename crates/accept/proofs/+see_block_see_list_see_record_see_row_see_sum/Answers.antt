@@ -18,7 +18,7 @@ ruleset steps = (level_some, stands_inside, width_there, next_fits, record_nothi
 
 pub see_record-see_row-requires : goal.see_record-see_row-requires
 see_record-see_row-requires t c = let a = c.args in
-    let i = as_product c.requires.stands c.head.ensures.0 c.head.ensures.1 c.form_of.ensures c.in-Product.is in
+    let i = as_product c.requires.stands c.head.ensures.0 c.head.ensures.1 c.form.ensures c.in-Product.is in
     let l = level_some c.requires.stands in
     (omega arith, (i.given, (c.requires.wide, inside_as a.frame.now a.bit _ _ i.wide c.requires.inside)))
 
@@ -27,7 +27,7 @@ see_record-both-requires t c = (omega arith, few _ c.in_ok-see_row-in-Product.wa
 
 pub see_record-see_sum-requires : goal.see_record-see_sum-requires
 see_record-see_sum-requires t c = let a = c.args in
-    let i = as_sum c.requires.stands c.head.ensures.0 c.head.ensures.1 c.form_of.ensures c.in-Sum.is in
+    let i = as_sum c.requires.stands c.head.ensures.0 c.head.ensures.1 c.form.ensures c.in-Sum.is in
     let l = level_some c.requires.stands in
     let o = i.some_choice in
     let f = i.few in
@@ -38,43 +38,43 @@ see_record-both-requires-in-Sum t c = (omega arith, few _ c.in_ok-see_sum-in-Sum
 
 pub see_record-see_list-requires : goal.see_record-see_list-requires
 see_record-see_list-requires t c = let a = c.args in
-    let i = as_list c.requires.stands c.head.ensures.0 c.head.ensures.1 c.form_of.ensures c.in-List.is in
+    let i = as_list c.requires.stands c.head.ensures.0 c.head.ensures.1 c.form.ensures c.in-List.is in
     let l = level_some c.requires.stands in
-    let f = bound_small i.fair in
-    (omega arith, (i.fair, (i.given, (c.requires.wide, inside_as a.frame.now a.bit _ _ (ap width i.lowered) c.requires.inside))))
+    let f = bound_small c.in-List.bound in
+    (omega arith, (i.given, (c.requires.wide, inside_as a.frame.now a.bit _ _ (ap width i.lowered) c.requires.inside)))
 
 pub see_record-both-requires-in-List : goal.see_record-both-requires-in-List
 see_record-both-requires-in-List t c = (omega arith, few _ c.in_ok-see_list-in-List.was c.see_list.ensures)
 
 pub see_record-see_row-requires-in-Payload : goal.see_record-see_row-requires-in-Payload
 see_record-see_row-requires-in-Payload t c = let a = c.args in
-    let i = as_payload c.requires.stands c.head.ensures.0 c.head.ensures.1 c.form_of.ensures c.in-Payload.is in
+    let i = as_payload c.requires.stands c.head.ensures.0 c.head.ensures.1 c.form.ensures c.in-Payload.is in
     let l = level_some c.requires.stands in
     (omega arith, (i.given, (c.requires.wide, inside_as a.frame.now a.bit _ _ i.wide c.requires.inside)))
 
 pub see_record-returns-in_ok-see_row-in-Product : goal.see_record-returns-in_ok-see_row-in-Product
 see_record-returns-in_ok-see_row-in-Product t c = let a = c.args in
-    counted_both refl c.in_ok-see_row-in-Product.was c.both.ensures ∙ record_product c.requires.stands c.head.ensures.0 c.head.ensures.1 c.form_of.ensures a.frame.now a.bit _ _ _ c.in-Product.is c.see_row.ensures
+    counted_both refl c.in_ok-see_row-in-Product.was c.both.ensures ∙ record_product c.requires.stands c.head.ensures.0 c.head.ensures.1 c.form.ensures a.frame.now a.bit _ _ _ c.in-Product.is c.see_row.ensures
 
 pub see_record-returns-in_err-see_row-in-Product : goal.see_record-returns-in_err-see_row-in-Product
 see_record-returns-in_err-see_row-in-Product t c = let a = c.args in
-    c.from_residual.ensures ∙ stray_second _ _ 1 refl c.in_err-see_row-in-Product.was ∙ record_product c.requires.stands c.head.ensures.0 c.head.ensures.1 c.form_of.ensures a.frame.now a.bit _ _ _ c.in-Product.is c.see_row.ensures
+    c.from_residual.ensures ∙ stray_second _ _ 1 refl c.in_err-see_row-in-Product.was ∙ record_product c.requires.stands c.head.ensures.0 c.head.ensures.1 c.form.ensures a.frame.now a.bit _ _ _ c.in-Product.is c.see_row.ensures
 
 pub see_record-returns-in_ok-see_sum-in-Sum : goal.see_record-returns-in_ok-see_sum-in-Sum
 see_record-returns-in_ok-see_sum-in-Sum t c = let a = c.args in
-    counted_both refl c.in_ok-see_sum-in-Sum.was c.both-in-Sum.ensures ∙ record_sum c.requires.stands c.head.ensures.0 c.head.ensures.1 c.form_of.ensures a.frame.now a.bit _ _ _ _ c.in-Sum.is c.requires.wide c.width.ensures c.requires.inside c.see_sum.ensures
+    counted_both refl c.in_ok-see_sum-in-Sum.was c.both-in-Sum.ensures ∙ record_sum c.requires.stands c.head.ensures.0 c.head.ensures.1 c.form.ensures a.frame.now a.bit _ _ _ _ c.in-Sum.is c.requires.wide c.width.ensures c.requires.inside c.see_sum.ensures
 
 pub see_record-returns-in_err-see_sum-in-Sum : goal.see_record-returns-in_err-see_sum-in-Sum
 see_record-returns-in_err-see_sum-in-Sum t c = let a = c.args in
-    c.from_residual-in_err-see_sum-in-Sum.ensures ∙ stray_second _ _ 1 refl c.in_err-see_sum-in-Sum.was ∙ record_sum c.requires.stands c.head.ensures.0 c.head.ensures.1 c.form_of.ensures a.frame.now a.bit _ _ _ _ c.in-Sum.is c.requires.wide c.width.ensures c.requires.inside c.see_sum.ensures
+    c.from_residual-in_err-see_sum-in-Sum.ensures ∙ stray_second _ _ 1 refl c.in_err-see_sum-in-Sum.was ∙ record_sum c.requires.stands c.head.ensures.0 c.head.ensures.1 c.form.ensures a.frame.now a.bit _ _ _ _ c.in-Sum.is c.requires.wide c.width.ensures c.requires.inside c.see_sum.ensures
 
 pub see_record-returns-in_ok-see_list-in-List : goal.see_record-returns-in_ok-see_list-in-List
 see_record-returns-in_ok-see_list-in-List t c = let a = c.args in
-    counted_both refl c.in_ok-see_list-in-List.was c.both-in-List.ensures ∙ record_list c.requires.stands c.head.ensures.0 c.head.ensures.1 c.form_of.ensures a.frame.now a.bit _ _ c.in-List.is c.requires.inside c.see_list.ensures
+    counted_both refl c.in_ok-see_list-in-List.was c.both-in-List.ensures ∙ record_list c.requires.stands c.head.ensures.0 c.head.ensures.1 c.form.ensures a.frame.now a.bit _ _ c.in-List.is c.requires.inside c.see_list.ensures
 
 pub see_record-returns-in_err-see_list-in-List : goal.see_record-returns-in_err-see_list-in-List
 see_record-returns-in_err-see_list-in-List t c = let a = c.args in
-    c.from_residual-in_err-see_list-in-List.ensures ∙ stray_second _ _ 1 refl c.in_err-see_list-in-List.was ∙ record_list c.requires.stands c.head.ensures.0 c.head.ensures.1 c.form_of.ensures a.frame.now a.bit _ _ c.in-List.is c.requires.inside c.see_list.ensures
+    c.from_residual-in_err-see_list-in-List.ensures ∙ stray_second _ _ 1 refl c.in_err-see_list-in-List.was ∙ record_list c.requires.stands c.head.ensures.0 c.head.ensures.1 c.form.ensures a.frame.now a.bit _ _ c.in-List.is c.requires.inside c.see_list.ensures
 
 pub see_record-overflow_add-at : goal.see_record-overflow_add-at
 see_record-overflow_add-at t c = search steps
@@ -249,55 +249,55 @@ see_block-width-requires t c = search steps
 pub see_list-overflow_add-next : goal.see_list-overflow_add-next
 see_list-overflow_add-next t c = let a = c.args in
     let e = c.get-n.ensures in
-    let h = halved _ _ _ c.requires.fair_bound _ c.checked_div2.ensures _ c.in-Some.is in
+    let h = halved _ _ _ c.args.bound _ c.checked_div2.ensures _ c.in-Some.is in
     half_tag a.frame.now a.bit _ _ _ h c.requires.inside
 
 pub see_list-overflow_mul-next : goal.see_list-overflow_mul-next
 see_list-overflow_mul-next t c = let a = c.args in
     let e = c.get-n.ensures in
-    let h = halved _ _ _ c.requires.fair_bound _ c.checked_div2.ensures _ c.in-Some.is in
+    let h = halved _ _ _ c.args.bound _ c.checked_div2.ensures _ c.in-Some.is in
     half_mul c.requires.stands c.requires.wide c.width.ensures a.frame.now a.bit _ h e c.requires.inside
 
 pub see_list-see_list-requires : goal.see_list-see_list-requires
 see_list-see_list-requires t c = let a = c.args in
     let e = c.get-n.ensures in
-    let h = halved _ _ _ c.requires.fair_bound _ c.checked_div2.ensures _ c.in-Some.is in
+    let h = halved _ _ _ c.args.bound _ c.checked_div2.ensures _ c.in-Some.is in
     let l = h.less in
-    (omega arith, (h.fair, (c.requires.stands, (c.requires.wide, half_list c.requires.stands c.requires.wide c.width.ensures a.frame.now a.bit _ h e c.requires.inside))))
+    (omega arith, (c.requires.stands, (c.requires.wide, half_list c.requires.stands c.requires.wide c.width.ensures a.frame.now a.bit _ h e c.requires.inside)))
 
 pub see_list-both-requires : goal.see_list-both-requires
 see_list-both-requires t c = (few _ c.in_ok-first.was c.see_block-2.ensures, few _ c.in_ok-others.was c.see_list.ensures)
 
 pub see_list-see_block-requires : goal.see_list-see_block-requires
 see_list-see_block-requires t c = let a = c.args in
-    let h = two _ _ _ c.requires.fair_bound _ c.checked_div2.ensures c.in_default.is in
+    let h = two _ _ _ c.args.bound _ c.checked_div2.ensures c.in_default.is in
     (omega arith, (c.requires.stands, (c.requires.wide, two_block a.frame.now a.bit h c.requires.inside)))
 
 pub see_list-returns-in_default : goal.see_list-returns-in_default
 see_list-returns-in_default t c = let a = c.args in
-    listed_two _ _ _ c.requires.fair_bound _ c.checked_div2.ensures a.frame.now a.bit _ c.in_default.is c.see_block.ensures
+    listed_two _ _ _ c.args.bound _ c.checked_div2.ensures a.frame.now a.bit _ c.in_default.is c.see_block.ensures
 
 pub see_list-overflow_add-next-2 : goal.see_list-overflow_add-next-2
 see_list-overflow_add-next-2 t c = let a = c.args in
-    let h = halved _ _ _ c.requires.fair_bound _ c.checked_div2.ensures _ c.in-Some.is in
+    let h = halved _ _ _ c.args.bound _ c.checked_div2.ensures _ c.in-Some.is in
     half_next c.requires.stands c.requires.wide c.width.ensures a.frame.now a.bit _ h c.get-n.ensures c.requires.inside
 
 pub see_list-see_block-requires-2 : goal.see_list-see_block-requires-2
 see_list-see_block-requires-2 t c = let a = c.args in
-    let h = halved _ _ _ c.requires.fair_bound _ c.checked_div2.ensures _ c.in-Some.is in
+    let h = halved _ _ _ c.args.bound _ c.checked_div2.ensures _ c.in-Some.is in
     (omega arith, (c.requires.stands, (c.requires.wide, half_block c.requires.stands c.requires.wide c.width.ensures a.frame.now a.bit _ h c.get-n.ensures c.requires.inside)))
 
 pub see_list-returns-in_err-first : goal.see_list-returns-in_err-first
 see_list-returns-in_err-first t c = let a = c.args in
-    c.from_residual.ensures ∙ both_stray _ _ c.in_err-first.was ∙ listed_more _ _ _ c.requires.fair_bound _ c.checked_div2.ensures a.frame.now a.bit _ _ _ _ _ _ _ c.in-Some.is c.get-n.ensures c.requires.stands c.requires.wide c.width.ensures c.see_block-2.ensures refl
+    c.from_residual.ensures ∙ both_stray _ _ c.in_err-first.was ∙ listed_more _ _ _ c.args.bound _ c.checked_div2.ensures a.frame.now a.bit _ _ _ _ _ _ _ c.in-Some.is c.get-n.ensures c.requires.stands c.requires.wide c.width.ensures c.see_block-2.ensures refl
 
 pub see_list-returns-in_err-others : goal.see_list-returns-in_err-others
 see_list-returns-in_err-others t c = let a = c.args in
-    c.from_residual-in_err-others.ensures ∙ stray_second _ _ _ c.in_ok-first.was c.in_err-others.was ∙ listed_more _ _ _ c.requires.fair_bound _ c.checked_div2.ensures a.frame.now a.bit _ _ _ _ _ _ _ c.in-Some.is c.get-n.ensures c.requires.stands c.requires.wide c.width.ensures c.see_block-2.ensures c.see_list.ensures
+    c.from_residual-in_err-others.ensures ∙ stray_second _ _ _ c.in_ok-first.was c.in_err-others.was ∙ listed_more _ _ _ c.args.bound _ c.checked_div2.ensures a.frame.now a.bit _ _ _ _ _ _ _ c.in-Some.is c.get-n.ensures c.requires.stands c.requires.wide c.width.ensures c.see_block-2.ensures c.see_list.ensures
 
 pub see_list-returns : goal.see_list-returns
 see_list-returns t c = let a = c.args in
-    counted_both c.in_ok-first.was c.in_ok-others.was c.both.ensures ∙ listed_more _ _ _ c.requires.fair_bound _ c.checked_div2.ensures a.frame.now a.bit _ _ _ _ _ _ _ c.in-Some.is c.get-n.ensures c.requires.stands c.requires.wide c.width.ensures c.see_block-2.ensures c.see_list.ensures
+    counted_both c.in_ok-first.was c.in_ok-others.was c.both.ensures ∙ listed_more _ _ _ c.args.bound _ c.checked_div2.ensures a.frame.now a.bit _ _ _ _ _ _ _ c.in-Some.is c.get-n.ensures c.requires.stands c.requires.wide c.width.ensures c.see_block-2.ensures c.see_list.ensures
 
 pub see_list-width-requires : goal.see_list-width-requires
 see_list-width-requires t c = search steps

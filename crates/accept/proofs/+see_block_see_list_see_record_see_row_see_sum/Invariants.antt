@@ -18,7 +18,7 @@ abbrev pub decreases-see_block : goal.decreases-see_block
 decreases-see_block l = l.level * 2 ^ 17 + 2
 
 abbrev pub decreases-see_list : goal.decreases-see_list
-decreases-see_list l = l.level * 2 ^ 17 + l.bound.0 + 3
+decreases-see_list l = l.level * 2 ^ 17 + l.bound.value + 3
 
 abbrev pub decreases-see_record : goal.decreases-see_record
 decreases-see_record l = l.level * 2 ^ 17

@@ -1,15 +1,16 @@
 -- What the walk answers of numbers and places, in the form in which the code's needs ask it.
-use Rattle.std.specs.Prelude.{◌≡◌, refl, Bool, false, List, ℕ, ◌+◌, ◌≤◌, ◌<◌, Option as Optional, Some, None, unwrap_or}
+use Rattle.std.specs.Prelude.{◌≡◌, refl, Bool, true, false, List, ℕ, ◌+◌, ◌≤◌, ◌<◌, Option as Optional, Some, None}
+use Rattle.std.specs.Option.{is_some}
 use Rattle.std.proofs.Common.{sym, ap, ap₂, subst, ◌∙◌, arith, Fits}
 use Rattle.std.proofs.Math.Option.{Option, none, some}
 use Rattle.std.specs.Int.{w64}
 use Rattle.types.specs.declared.Head.{Head}
 use Rattle.types.specs.Record.{head_at}
 use Rattle.types.specs.Heads.{Fair}
-use Rattle.told.specs.declared.Parts.{Parts}
-use Rattle.told.specs.declared.Parts.TheVariants.{Copies}
-use Rattle.record.specs.declared.Form.{Form}
-use Rattle.record.specs.Forms.{form_of}
+use Rattle.types.specs.declared.forms.Parts.{Parts}
+use Rattle.types.specs.declared.forms.Parts.TheVariants.{Copies}
+use Rattle.types.specs.declared.forms.Form.{Form}
+use Rattle.types.specs.Forms.{form_of}
 use Rattle.rebuild.specs.Forms.{most_records}
 use Rattle.accept.specs.Forms.{plus}
 use Rattle.accept.specs.Answers.{answer, count_of, both_of, plain_form, plain, Plain, Counted}
@@ -26,12 +27,6 @@ plain_as k s p h f x r e i g j l m = record {
 }
 
 -- NUMBERS
-
-pub so_many_most : (n : ℕ) → most_records < n → Some most_records ≡ answer (some n)
-so_many_most n h = ap Some (omega arith)
-
-pub so_many_all : (n : ℕ) → n ≤ most_records → Some n ≡ answer (some n)
-so_many_all n h = ap Some (omega arith)
 
 pub sum_fits : (a b : Optional ℕ) (n m : ℕ) → a ≡ Some n → b ≡ Some m → count_of a ≤ most_records → count_of b ≤ most_records → Fits w64 (n + m)
 sum_fits a b n m e f g h = let i : count_of a ≡ n = ap count_of e in let j : count_of b ≡ m = ap count_of f in omega arith
@@ -80,11 +75,8 @@ module _ (r : Optional ℕ) (o : Option ℕ) (c : Counted o) (e : r ≡ answer o
   counted_is : r ≡ Some c.count
   counted_is = e ∙ ap answer c.there ∙ ap Some (omega (arith, c.few))
 
+  pub part_some : is_some r ≡ true
+  part_some = ap is_some counted_is
+
   pub part_counted : (n : ℕ) → r ≡ Some n → o ≡ some n
   part_counted n h = let i : c.count ≡ n = ap count_of (sym counted_is ∙ h) in c.there ∙ ap some i
-
-  pub part_told : (n : ℕ) → n ≡ unwrap_or r 0 → o ≡ some n
-  part_told n h = let i : c.count ≡ n = ap (λ r. unwrap_or r 0) (sym counted_is) ∙ sym h in c.there ∙ ap some i
-
-  pub part_not_stray : (n : ℕ) → r ≡ None → o ≡ some n
-  part_not_stray n h = absurd (let z = sym h ∙ counted_is in let y : ◌≡◌ {A = ℕ} 0 1 = cc in omega arith)

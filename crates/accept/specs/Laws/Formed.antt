@@ -8,7 +8,7 @@ use native.Mathlib.Omega.{arith}
 use Rattle.std.proofs.Math.ListN.{length}
 use Rattle.std.proofs.lemmas.List.{length-replicate}
 use Rattle.num.specs.declared.NonZeroPow2Usize.{NonZeroPow2Usize}
-use Rattle.num.specs.Powers.{bound}
+use Rattle.num.specs.Powers.{bound_two}
 use Rattle.model.specs.Options.{map_o}
 use Rattle.model.specs.Bytes.{of_bits}
 use Rattle.model.specs.Balanced.{btree, fold}
@@ -20,20 +20,20 @@ use Rattle.types.specs.declared.Head.{Head}
 use Rattle.types.specs.declared.Head.TheVariants.{Missing, Faulty, Never, Boolean, UInt, Either, Opt, Tuple, Array, Listed, Variants}
 use Rattle.types.specs.declared.Head.TheVariants as head
 use Rattle.types.specs.Record.{head_at}
-use Rattle.types.specs.Heads.{Fair, FairBound}
+use Rattle.types.specs.Heads.{Fair}
 use Rattle.structural.specs.Forms.{most_parts, Stands, standing, balanced, listed}
 use Rattle.structural.specs.Forms as structural
 use Rattle.structural.specs.declared.Parts as structural_parts
 use Rattle.structural.specs.declared.Parts.TheVariants as parts
 use Rattle.structural.proofs.Laws.Forms as structural_laws
 use Rattle.structural.proofs.Laws.Trees.{row_stays}
-use Rattle.told.specs.declared.Parts.{Parts}
-use Rattle.told.specs.declared.Parts.TheVariants.{Copies, Types}
+use Rattle.types.specs.declared.forms.Parts.{Parts}
+use Rattle.types.specs.declared.forms.Parts.TheVariants.{Copies, Types}
 use Rattle.told.specs.Forms.{after, GivenParts}
 use Rattle.record.specs.Trees.{part, product, sum, elements}
-use Rattle.record.specs.declared.Form.{Form}
-use Rattle.record.specs.declared.Form.TheVariants as form
-use Rattle.record.specs.Forms.{form_of}
+use Rattle.types.specs.declared.forms.Form.{Form}
+use Rattle.types.specs.declared.forms.Form.TheVariants as form
+use Rattle.types.specs.Forms.{form_of}
 use Rattle.record.specs.Marks.{mark_of}
 use Rattle.record.specs.Laws.Formed as records
 use Rattle.accept.specs.Forms.{shape_at, stray_at, unless, plus, seen, types_in, row_width, seen_row, seen_sum, seen_list}
@@ -64,7 +64,6 @@ pub record SumSeen (n d : ℕ) (s E : List ℕ) (p : ℕ) : Type 0 where
 
 -- a list: its record, and its elements
 pub record ListSeen (b : NonZeroPow2Usize) (d : ℕ) (s E : List ℕ) (p : ℕ) : Type 0 where
-  pub fair : FairBound b
   pub given : Stands (d - 1) s E (p + 1)
   pub lowered : standing d s p ≡ listed (d - 1) s b (p + 1)
   pub same : (fr : List ℕ) (bit : ℕ) → bit + width (standing d s p) ≤ 8 * length fr → seen d s p fr bit ≡ plus (some 1) (seen_list (d - 1) s b (p + 1) fr bit)
@@ -178,10 +177,9 @@ module _ (d : ℕ) (s E : List ℕ) (p : ℕ) where
         ∙ ap (plus (some 1)) (sum_seen (d - 1) s E n (p + 1) a fr bit o g e l);
   }
 
-  list_of : (b : NonZeroPow2Usize) (r : ℕ → Rec) → FairBound b → Stands (d - 1) s E (p + 1) → standing d s p ≡ listed (d - 1) s b (p + 1) → ((x : SValue) → part d s p x ≡ map_o (λ y. r y.0 ∷ y.1) (elements (d - 1) s b (p + 1) x)) → ListSeen b d s E p
+  list_of : (b : NonZeroPow2Usize) (r : ℕ → Rec) → Stands (d - 1) s E (p + 1) → standing d s p ≡ listed (d - 1) s b (p + 1) → ((x : SValue) → part d s p x ≡ map_o (λ y. r y.0 ∷ y.1) (elements (d - 1) s b (p + 1) x)) → ListSeen b d s E p
   unfolding seen listed
-  list_of b r f g e h = record {
-    fair = f;
+  list_of b r g e h = record {
     given = g;
     lowered = e;
     same = λ fr bit l.
@@ -231,14 +229,14 @@ formed Boolean d s E p g e f =
     ∙ ap (map_o length) (r.same (shape_at (𝟙 ⊕ 𝟙) fr bit) ∙ ap (map_o (λ b. rec 1 (bit_number b) 0 0 ∷ [])) (bit_shape fr bit (omega arith))))
 formed (UInt w) d s E p g e f =
     let r = records.formed (UInt w) d s E p g e f in
-    bits_of d s E p w.0 (structural_laws.formed g (UInt w) e f).same (λ fr bit l.
-    ap (map_o length) (r.same (shape_at (fold ◌⊗◌ 𝟙 (btree w.0) (replicate w.0 (𝟙 ⊕ 𝟙))) fr bit) ∙ ap (map_o (λ bs. rec 2 0 w.0 (of_bits bs) ∷ [])) (integer_bits fr w.0 bit l)))
+    bits_of d s E p w.value (structural_laws.formed g (UInt w) e f).same (λ fr bit l.
+    ap (map_o length) (r.same (shape_at (fold ◌⊗◌ 𝟙 (btree w.value) (replicate w.value (𝟙 ⊕ 𝟙))) fr bit) ∙ ap (map_o (λ bs. rec 2 0 w.value (of_bits bs) ∷ [])) (integer_bits fr w.value bit l)))
 formed Either d s E p g e f =
     let r = records.formed Either d s E p g e f in
     sum_of d s E p 2 (mark_of Either) r.some_choice r.few r.given ((structural_laws.formed g Either e f).same ∙ choices_sum (d - 1) s 2 (p + 1)) r.same
 formed Opt d s E p g e f =
     let r = records.formed Opt d s E p g e f in
-    list_of d s E p (bound 2) (mark_of Opt) r.fair r.given (structural_laws.formed g Opt e f).same r.same
+    list_of d s E p bound_two (mark_of Opt) r.given (structural_laws.formed g Opt e f).same r.same
 formed (Tuple n) d s E p g e f =
     let r = records.formed (Tuple n) d s E p g e f in
     product_of d s E p Types n (mark_of (Tuple n) n) r.given ((structural_laws.formed g (Tuple n) e f).same ∙ types_product (d - 1) s n (p + 1)) r.same
@@ -247,7 +245,7 @@ formed (Array n) d s E p g e f =
     product_of d s E p Copies n (mark_of (Array n) n) r.given ((structural_laws.formed g (Array n) e f).same ∙ copies_product (d - 1) s n (p + 1)) r.same
 formed (Listed b) d s E p g e f =
     let r = records.formed (Listed b) d s E p g e f in
-    list_of d s E p b (mark_of (Listed b)) r.fair r.given (structural_laws.formed g (Listed b) e f).same r.same
+    list_of d s E p b (mark_of (Listed b)) r.given (structural_laws.formed g (Listed b) e f).same r.same
 formed (Variants n) d s E p g e f =
     let r = records.formed (Variants n) d s E p g e f in
     sum_of d s E p n (mark_of (Variants n)) r.some_choice r.few r.given ((structural_laws.formed g (Variants n) e f).same ∙ choices_sum (d - 1) s n (p + 1)) r.same

@@ -20,8 +20,8 @@ use Rattle.model.proofs.Laws.Sizes.{width_array, width_block}
 use Rattle.bits.specs.Bits.{bits_at}
 use Rattle.structural.specs.Forms.{standing, ending}
 use Rattle.structural.proofs.Laws.Forms.{stands_end}
-use Rattle.told.specs.declared.Parts.{Parts}
-use Rattle.told.specs.declared.Parts.TheVariants.{Copies, Types}
+use Rattle.types.specs.declared.forms.Parts.{Parts}
+use Rattle.types.specs.declared.forms.Parts.TheVariants.{Copies, Types}
 use Rattle.told.specs.Forms.{after, skip, GivenParts, hops}
 use Rattle.record.specs.Trees.{part, row, product, sum, elements, numbered}
 use Rattle.accept.specs.Forms.{shape_at, stray_at, tag_at, shapes_at, strays_at, choice_in, block_at, block_stray, elements_at, list_stray, unless, plus, seen, types_in, seen_row, seen_choice, seen_sum, seen_block, seen_blocks, seen_list}
@@ -186,10 +186,10 @@ module _ (d : ℕ) (s : List ℕ) (p : ℕ) where
   list_made xs o e = rw e (map_o_map_o (λ rs. (length xs, rs)) (λ (y : ℕ × List Rec). length y.1) (row Copies d s (length xs) p xs))
 
   -- as a list of what stands there
-  pub list_seen : (b : NonZeroPow2Usize) (t : SType) (fr : List ℕ) (bit : ℕ) → t ≡ partition_type (bound_log2 b.0 - 1) (standing d s p) → bit + width t ≤ 8 * length fr
+  pub list_seen : (b : NonZeroPow2Usize) (t : SType) (fr : List ℕ) (bit : ℕ) → t ≡ partition_type (bound_log2 b.value - 1) (standing d s p) → bit + width t ≤ 8 * length fr
       → unless (stray_at t fr bit) (map_o (λ y. length y.1) (elements d s b p (shape_at t fr bit))) ≡ seen_list d s b p fr bit
   unfolding elements seen_list
   list_seen b t fr bit e h =
       let a = standing d s p in
-      let n = bound_log2 b.0 - 1 in
+      let n = bound_log2 b.value - 1 in
       rw e (ap₂ unless (list_strays n a fr bit (rw e at h)) (list_made (elements_at n a fr bit) _ (list_shapes n a fr bit (rw e at h))) ∙ blocks_seen n fr bit)

@@ -6,25 +6,22 @@ use Rattle.std.proofs.Math.Bool.{true, false}
 use mathlib.Core.List.{List, [], ◌∷◌}
 use Rattle.std.proofs.Math.Option.{Option, none, some}
 use Prim.Native.Nat.{ℕ, zero, suc, ◌+◌, ◌-◌, ◌*◌, ◌^◌, ◌≤◌, ◌<◌}
-use Rattle.std.proofs.Math.Nat.{two-pow-succ, one-le-pow}
 use Rattle.std.proofs.Math.Numerals.{sub-one}
 use native.Mathlib.Omega.{arith}
 use Rattle.num.specs.declared.NonZeroPow2Usize.{NonZeroPow2Usize}
-use Rattle.num.specs.Powers.{bound, half_bound}
-use Rattle.num.specs.Laws.{bounded, bound_power, half_bound_two, half_bound_more}
+use Rattle.num.specs.Powers.{half_bound}
+use Rattle.num.specs.Laws.{no_half, HalfOf, half_of}
 use Rattle.model.specs.Options.{any}
 use Rattle.model.specs.Balanced.{btree, fold}
 use Rattle.model.specs.Structural.{SType, 𝟙, ◌⊕◌}
 use Rattle.model.specs.Frames.{width}
 use Rattle.model.proofs.Laws.Balanced.{Shares}
 use Rattle.model.proofs.Laws.Sizes.{fold_one, fold_step, width_partition_zero, width_partition_suc}
-use Rattle.types.specs.Heads.{FairBound}
 use Rattle.structural.specs.Forms.{Stands, standing, listed}
 use Rattle.structural.proofs.Laws.Forms.{stands_inside}
-use Rattle.structural.proofs.Laws.Bounds.{Power, power_of}
 use Rattle.bits.specs.Bits.{bits_at, Inside}
-use Rattle.told.specs.declared.Parts.{Parts}
-use Rattle.told.specs.declared.Parts.TheVariants.{Copies, Types}
+use Rattle.types.specs.declared.forms.Parts.{Parts}
+use Rattle.types.specs.declared.forms.Parts.TheVariants.{Copies, Types}
 use Rattle.told.specs.Forms.{after, skip, GivenParts, hops, Hops, after_at}
 use Rattle.told.specs.Widths.{Wide}
 use Rattle.told.specs.Laws.Hops.{hops_add}
@@ -253,38 +250,25 @@ pub record Two (b : NonZeroPow2Usize) (d : ℕ) (s : List ℕ) (p : ℕ) : Type 
   pub wide : width (listed d s b p) ≡ 1 + 1 * width (standing d s p)
   pub same : (fr : List ℕ) (bit : ℕ) → seen_list d s b p fr bit ≡ seen_block d s 1 p fr bit
 
-pub list_two : {b : NonZeroPow2Usize} (d : ℕ) (s : List ℕ) (p : ℕ) → FairBound b → None ≡ half_bound b.0 → Two b d s p
+pub list_two : {b : NonZeroPow2Usize} (d : ℕ) (s : List ℕ) (p : ℕ) → None ≡ half_bound b → Two b d s p
 unfolding listed seen_list seen_blocks
-list_two {b} d s p f h = go f.exponent (power_of f)
-  where
-    go : (e : ℕ) → Power b e → Two b d s p
-    go zero k = record { wide = rw k.log2 (width_partition_zero (standing d s p) ∙ omega arith); same = λ fr bit. rw k.log2 refl }
-    go (suc e) k =
-        let m : half_bound b.0 ≡ Some (bound (2 ^ suc e)) = ap half_bound k.power ∙ sym (half_bound_more e) in
-        let z : ◌≡◌ {A = ℕ} 0 1 = cc in absurd (omega arith)
+list_two d s p h =
+    let k = no_half h in
+    record { wide = rw k.log2 (width_partition_zero (standing d s p) ∙ omega arith); same = λ fr bit. rw k.log2 refl }
 
 -- with a larger one it is a block of the half, and the list with that bound behind it
 pub record Halved (b h : NonZeroPow2Usize) (d : ℕ) (s : List ℕ) (p : ℕ) : Type 0 where
-  pub fair : FairBound h
-  pub less : h.0 < b.0
-  pub wide : width (listed d s b p) ≡ 1 + h.0 * width (standing d s p) + width (listed d s h p)
-  pub same : (fr : List ℕ) (bit : ℕ) → seen_list d s b p fr bit ≡ plus (seen_block d s h.0 p fr bit) (seen_list d s h p fr (bit + 1 + h.0 * width (standing d s p)))
+  pub less : h.value < b.value
+  pub wide : width (listed d s b p) ≡ 1 + h.value * width (standing d s p) + width (listed d s h p)
+  pub same : (fr : List ℕ) (bit : ℕ) → seen_list d s b p fr bit ≡ plus (seen_block d s h.value p fr bit) (seen_list d s h p fr (bit + 1 + h.value * width (standing d s p)))
 
-pub list_more : {b h : NonZeroPow2Usize} (d : ℕ) (s : List ℕ) (p : ℕ) → FairBound b → Some h ≡ half_bound b.0 → Halved b h d s p
+pub list_more : {b h : NonZeroPow2Usize} (d : ℕ) (s : List ℕ) (p : ℕ) → Some h ≡ half_bound b → Halved b h d s p
 unfolding listed seen_list seen_blocks
-list_more {b} {h} d s p f q = go f.exponent (power_of f)
+list_more {b} {h} d s p q = go (half_of q)
   where
-    go : (e : ℕ) → Power b e → Halved b h d s p
-    go zero k =
-        let m : half_bound b.0 ≡ None = ap half_bound k.power ∙ sym half_bound_two in
-        let z : ◌≡◌ {A = ℕ} 0 1 = cc in absurd (omega arith)
-    go (suc e) k =
-        let m : half_bound b.0 ≡ Some (bound (2 ^ suc e)) = ap half_bound k.power ∙ sym (half_bound_more e) in
-        let i : h ≡ bound (2 ^ suc e) = cc in
-        let a = bound_power e (omega arith) in
-        rw i (record {
-          fair = record { exponent = e; admitted = a };
-          less = omega (arith, k.power, two-pow-succ (suc e), one-le-pow (suc e) 2 (omega arith));
-          wide = rw (k.log2, (bounded (2 ^ suc e) e a).log2, sub-one, sub-one) (width_partition_suc e (standing d s p) ∙ omega arith);
-          same = λ fr bit. rw (k.log2, (bounded (2 ^ suc e) e a).log2, sub-one, sub-one) refl;
-        })
+    go : HalfOf b h → Halved b h d s p
+    go k = record {
+      less = k.less;
+      wide = rw (k.log2_twice, k.log2, k.power, sub-one, sub-one) (width_partition_suc k.exponent (standing d s p) ∙ omega arith);
+      same = λ fr bit. rw (k.log2_twice, k.log2, k.power, sub-one, sub-one) refl;
+    }

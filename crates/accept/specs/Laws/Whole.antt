@@ -4,7 +4,7 @@ use Rattle.std.proofs.Common.{sym, ◌∙◌, arith, Fits, length-take, length-d
 use Rattle.std.proofs.Math.Path.{ap}
 use Rattle.std.proofs.Math.Bool.{not-not}
 use Rattle.std.proofs.Math.Option.{Option, none, some}
-use Rattle.std.specs.Int.{w64}
+use Rattle.std.specs.Int.{w64, div_ceil}
 use Rattle.std.specs.Option.{ok_or}
 use Rattle.std.proofs.Math.ListN.{length}
 use Rattle.reply.specs.declared.Refusal.TheVariants.{FrameLength, StrayBit}
@@ -95,6 +95,10 @@ module _ (t : Ty) (fr : List ℕ) (n : length fr ≡ bytes_for (width (lower t))
 
 -- THE FILE
 
+-- the bytes for so many bits
+pub rounded : {size : ℕ} (w : ℕ) → size ≡ div_ceil w 8 → size ≡ (w + 7) / 8
+rounded w e = omega arith
+
 module _ {s E W : List ℕ} (g : Given 32 false s E 0) (u : Wide s E W) where
   type_is : standing 32 s 0 ≡ lower (type_in s)
   unfolding type_in low
@@ -151,9 +155,6 @@ module _ {s E W : List ℕ} (g : Given 32 false s E 0) (u : Wide s E W) where
   module _ {w : ℕ} (a : w ≡ get_or W 0 0) where
     wide_is : w ≡ width (lower (type_in s))
     wide_is = a ∙ whole_width
-
-    pub width_fits : Fits w64 (w + 7)
-    width_fits = let l = u.small 32 0 (stands g) in omega (arith, a)
 
     pub bits_fit : (n : ℕ) → n ≡ (w + 7) / 8 → Fits w64 (n * 8)
     bits_fit n e = let l = u.small 32 0 (stands g) in omega (arith, a)

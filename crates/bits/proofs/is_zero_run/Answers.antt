@@ -1,20 +1,22 @@
-use mathlib.Core.Path.{◌≡◌, refl, sym, ap, ◌∙◌}
+-- A bit that is 1 decides, among the whole bytes or behind them.
+use mathlib.Core.Path.{sym, ap, ◌∙◌}
 use mathlib.Core.Bool.{not}
-use Prim.Native.Nat.{◌+◌, ◌-◌}
-use Rattle.model.specs.Options.{any}
-use Rattle.bits.specs.Bits.{bits_at}
-use Rattle.bits.specs.Laws.Runs.{run_behind}
+use Prim.Native.Nat.{◌+◌, ◌*◌, ◌/◌}
 use native.Mathlib.Omega.{arith}
+use Rattle.bits.specs.Laws.Runs.{run_behind, run_one, any_inside, one_in_front}
 use Rattle.bits.proofs.is_zero_run.Goals as goal
 
-pub returns-in-None : goal.returns-in-None
-returns-in-None c = let a = c.args in
-    let t = c.loop-i in
-    let e : a.n ≡ t.i + (a.n - t.i) = omega arith in
-    sym (ap (λ k. not (any (bits_at a.s.now a.at k))) e ∙ ap not (run_behind a.s.now a.at t.i (a.n - t.i) t.invariant.1 ∙ c.in-None.ensures.found refl))
+pub returns-then-not-are_zero_bytes : goal.returns-then-not-are_zero_bytes
+returns-then-not-are_zero_bytes c = let a = c.args in one_in_front a.s.now a.at (8 * (a.n / 8)) a.n (omega arith) c.if-not-are_zero_bytes.ensures
+
+pub returns-then-get_bit : goal.returns-then-get_bit
+returns-then-get_bit c =
+    let a = c.args in
+    let i = c.loop-i.i in
+    sym (ap not (any_inside a.s.now a.at i 1 a.n (omega arith) (run_one a.s.now (a.at + i) (omega arith) ∙ sym c.if-get_bit.ensures)))
 
 pub loop-i-preserved : goal.loop-i-preserved
-loop-i-preserved c = let a = c.args in
+loop-i-preserved c =
+    let a = c.args in
     let t = c.loop-i in
-    let s = c.in-Some in
-    (omega (arith, s.ensures.1.most), run_behind a.s.now a.at t.i s.k t.invariant.1 ∙ s.ensures.1.clear)
+    run_behind a.s.now a.at t.i 1 t.invariant ∙ run_one a.s.now (a.at + t.i) (omega arith) ∙ sym c.if-get_bit.ensures

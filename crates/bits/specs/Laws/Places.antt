@@ -1,5 +1,5 @@
 -- A bit's place is bit at % 8 of byte at / 8: what one byte, or two neighbours, hold there is what the slice holds at bit `at`.
-use Rattle.std.specs.Prelude.{◌≡◌, refl, Bool, true, false, ◌≢◌, ℕ, zero, suc, ◌+◌, ◌-◌, ◌*◌, ◌/◌, ◌%◌, ◌^◌, ◌≤◌, ◌<◌, eqb, drop, set, Option as Optional, Some, None, MatchOption, unwrap_or}
+use Rattle.std.specs.Prelude.{◌≡◌, refl, Bool, true, false, ◌≢◌, ℕ, zero, suc, ◌+◌, ◌-◌, ◌*◌, ◌/◌, ◌%◌, ◌^◌, ◌≤◌, ◌<◌, eqb, not, drop, set}
 use Rattle.std.proofs.Math.Path.{sym, ap, ap₂}
 use Rattle.std.proofs.Common.{subst, subst₂, ◌∙◌, add-zero, lit<, length-set, length-take, length-drop, drop-cons, take-take, get_or-drop, get_or-take}
 use mathlib.Core.List.{List, [], ◌∷◌, ◌++◌, append-nil, append_assoc}
@@ -7,6 +7,7 @@ use Rattle.std.proofs.Math.Numerals.{add-one}
 use native.Mathlib.Omega.{arith}
 use Rattle.std.specs.Int.Bits.{bit_and, bit_or}
 use Rattle.std.proofs.Math.ListN.{length, take, get_or, replicate}
+use Rattle.std.specs.Bool.{MatchBool}
 use Rattle.std.specs.List.{AllWithin, HoldsAt}
 use Rattle.std.proofs.lemmas.List.{replicate-append-replicate}
 use Rattle.std.proofs.lemmas.List.Edits.{paste_all}
@@ -20,7 +21,7 @@ use Rattle.bits.specs.Laws.Splice.{length_splice, splice_one, splice_then}
 use Rattle.bits.specs.Laws.Writing.{wrote_then}
 use Rattle.bits.specs.Laws.Byte.{bit_of, bit_set, bit_cleared, byte_read, byte_put}
 use Rattle.bits.specs.Laws.Window.{bits_of_splice, window_bits, bits_within, wrote_within}
-use Rattle.bits.specs.Laws.Runs.{bits_at_add}
+use Rattle.bits.specs.Laws.Runs.{bits_at_add, any_inside, byte_any}
 
 -- ONE BYTE AND TWO, in a list
 
@@ -146,21 +147,24 @@ zero_front zero l q h = refl
 zero_front (suc i) [] q h = absurd (omega arith)
 zero_front (suc i) (b ∷ l) q h = ap₂ ◌∷◌ (h 0 0 (omega arith) (omega arith)) (zero_front i l (omega arith) (λ k d _ p. h (suc k) d (omega arith) (omega arith)))
 
+-- behind i bytes that are 0, one more
+pub zeros_next : (i : ℕ) → zeros (8 * i) ++ byte_bits 0 ≡ zeros (8 * (i + 1))
+unfolding byte_bits
+zeros_next i = let e : 8 * i + 8 ≡ 8 * (i + 1) = omega arith in replicate-append-replicate (8 * i) 8 false ∙ ap zeros e
+
+-- the bits of k bytes are zeros if all of these are 0, and else one is 1
 module _ (d : List ℕ) (at k : ℕ) (z : at % 8 ≡ 0) (h : at + 8 * k ≤ 8 * length d) where
   abbrev whole : List ℕ
   whole = take k (drop (at / 8) d)
 
-  abbrev Found : Optional ℕ → Type 0
-  Found r = MatchOption r (AllWithin (λ x. x ≡ 0) whole 0 (length whole)) (λ i. (i < length whole) × HoldsAt (λ x. x ≡ 0 → ⊥) whole i × AllWithin (λ x. x ≡ 0) whole 0 i)
-
   length_whole : length whole ≡ k
   length_whole = simp (length-take, length-drop) (omega arith)
 
-  zero_in_front : (i : ℕ) → i ≤ k → AllWithin (λ x. x ≡ 0) whole 0 i → any (bits_at d at (8 * i)) ≡ false
-  zero_in_front i q f =
-      ap any (bytes_at d at z i (omega arith) ∙ ap bits_of (sym (take-take i k (drop (at / 8) d) q) ∙ zero_front i whole (omega (arith, length_whole)) f) ∙ zero_bytes i) ∙ any_zeros (8 * i)
-
-  -- the bits before the first of k bytes that is not 0, or of all k where there is none, are zeros
-  pub zero_before : (r : Optional ℕ) → Found r → (unwrap_or r k ≤ k) × (any (bits_at d at (8 * unwrap_or r k)) ≡ false)
-  zero_before None f = (omega arith, zero_in_front k (omega arith) (rw length_whole at f))
-  zero_before (Some i) f = (omega (arith, length_whole, f.0), zero_in_front i (omega (arith, length_whole, f.0)) f.2)
+  pub zero_told : ((i : ℕ) → get_or d i 0 < 256) → (r : Bool) → MatchBool r (AllWithin (λ x. x ≡ 0) whole 0 (length whole)) ((i : ℕ) × (i < length whole) × HoldsAt (λ x. x ≡ 0 → ⊥) whole i) → r ≡ not (any (bits_at d at (8 * k)))
+  zero_told b true f = sym (ap not (ap any (bytes_at d at z k h ∙ ap bits_of (sym (take-take k k (drop (at / 8) d) (omega arith)) ∙ zero_front k whole (omega (arith, length_whole)) (rw length_whole at f)) ∙ zero_bytes k) ∙ any_zeros (8 * k)))
+  zero_told b false (i, q, f) =
+      let j : i < k = omega (arith, length_whole) in
+      let e : get_or whole i 0 ≡ get_or d (at / 8 + i) 0 = get_or-take k (drop (at / 8) d) i 0 j ∙ get_or-drop (at / 8) d i 0 in
+      let p : (at + 8 * i) / 8 ≡ at / 8 + i = omega arith in
+      let g : get_or d ((at + 8 * i) / 8) 0 ≡ 0 → ⊥ = λ y. f 0 (e ∙ ap (λ n. get_or d n 0) (sym p) ∙ y) in
+      sym (ap not (any_inside d at (8 * i) 8 (8 * k) (omega arith) (ap any (sym (byte_aligned d (at + 8 * i) (omega arith) (omega arith))) ∙ byte_any _ (b _) g)))

@@ -1,9 +1,9 @@
--- Laws of `Wrote`: nothing; one after the other; a step after the first i bits; the whole buffer.
+-- Laws of `Wrote`: nothing; one after the other; more behind the first i bits; the whole buffer.
 use Rattle.std.specs.Prelude.{◌≡◌, refl, Bool, List, [], ◌++◌, ℕ, ◌+◌, ◌*◌, length}
 use Rattle.std.proofs.Common.{sym, ap, ap₂, subst, ◌∙◌}
 use Rattle.model.specs.Bytes.{bits_of}
 use Rattle.model.proofs.Laws.Bytes.{length_bits_of}
-use Rattle.bits.specs.Bits.{splice, Wrote, Stepped}
+use Rattle.bits.specs.Bits.{splice, Wrote}
 use Rattle.bits.specs.Laws.Splice.{splice_none, splice_then, splice_whole}
 
 pub wrote_none : {d : List ℕ} {at : ℕ} → Wrote d at [] d
@@ -16,9 +16,9 @@ wrote_then {d} {x} {y} {at} {p} {s} {t} u v e =
 pub wrote_same : {d l : List ℕ} {at : ℕ} {s t : List Bool} → Wrote d at s l → s ≡ t → Wrote d at t l
 wrote_same {d} {l} {at} u e = subst (λ s. Wrote d at s l) e u
 
--- the first i bits of f, and a step that writes the next r of them
-pub wrote_step : {n : ℕ} {d x y : List ℕ} {at r : ℕ} {g : ℕ → List Bool} (f : ℕ → List Bool) (i : ℕ) → Wrote d at (f i) x → Stepped n x (at + i) g y r → length (f i) ≡ i → f i ++ g r ≡ f (i + r) → Wrote d at (f (i + r)) y
-wrote_step {at = at} f i u v h e = wrote_same (wrote_then u v.wrote (ap (λ k. at + k) (sym h))) e
+-- i bits, and more behind them
+pub wrote_behind : {d x y : List ℕ} {at i : ℕ} {s t u : List Bool} → Wrote d at s x → Wrote x (at + i) t y → length s ≡ i → s ++ t ≡ u → Wrote d at u y
+wrote_behind {at = at} v w h e = wrote_same (wrote_then v w (ap (λ k. at + k) (sym h))) e
 
 -- what was written over the whole is all there is
 pub wrote_whole : {d l : List ℕ} {s : List Bool} → Wrote d 0 s l → length s ≡ 8 * length d → bits_of l ≡ s

@@ -2,14 +2,14 @@
 use Rattle.cleaner.specs.Laws.{made_shape, shape_counts, made_line, line_counts}
 use Rattle.cleaner.proofs.make.Goals as goal
 
-pub returns-in-Ok-clause-out_after : goal.returns-in-Ok-clause-out_after
-returns-in-Ok-clause-out_after c = made_shape _ _ _ _ _ c.requires c.clean_shape.ensures _ c.in-Ok.is
+pub slice_bounds-result-end : goal.slice_bounds-result-end
+slice_bounds-result-end c = (shape_counts _ _ _ _ _ c.requires c.clean_shape.ensures _ c.in-Ok.is).1
 
-pub returns-in-Ok-clause-prefix_len : goal.returns-in-Ok-clause-prefix_len
-returns-in-Ok-clause-prefix_len c = shape_counts _ _ _ _ _ c.requires c.clean_shape.ensures _ c.in-Ok.is
+pub slice_bounds-result-end-in-Err : goal.slice_bounds-result-end-in-Err
+slice_bounds-result-end-in-Err c = (line_counts _ _ _ _ _ c.requires c.clean_shape.ensures _ c.in-Err.is _ _ c.write_refused-n.ensures).1
 
-pub returns-in-Err-clause-out_after : goal.returns-in-Err-clause-out_after
-returns-in-Err-clause-out_after c = made_line _ _ _ _ _ c.requires c.clean_shape.ensures _ c.in-Err.is _ _ c.write_refused.ensures
+pub returns-in-Ok-clause-cleaned : goal.returns-in-Ok-clause-cleaned
+returns-in-Ok-clause-cleaned c = made_shape _ _ _ _ _ c.requires c.clean_shape.ensures _ c.in-Ok.is
 
-pub returns-in-Err-clause-prefix_len : goal.returns-in-Err-clause-prefix_len
-returns-in-Err-clause-prefix_len c = line_counts _ _ _ _ _ c.requires c.clean_shape.ensures _ c.in-Err.is _ _ c.write_refused.ensures
+pub returns-in-Err-clause-refused : goal.returns-in-Err-clause-refused
+returns-in-Err-clause-refused c = made_line _ _ _ _ _ c.requires c.clean_shape.ensures _ c.in-Err.is _ _ c.write_refused-n.ensures

@@ -16,15 +16,15 @@ use Rattle.types.specs.declared.Head.{Head}
 use Rattle.types.specs.declared.Head.TheVariants.{Missing, Faulty, Never, Boolean, UInt, Either, Opt, Tuple, Array, Listed, Variants}
 use Rattle.types.specs.declared.Head.TheVariants as head
 use Rattle.types.specs.Record.{head_at}
-use Rattle.types.specs.Heads.{Fair, FairBound}
+use Rattle.types.specs.Heads.{Fair}
 use Rattle.structural.specs.declared.Parts.TheVariants as parts
 use Rattle.structural.specs.Forms.{Stands}
 use Rattle.structural.specs.Forms as structural
 use Rattle.structural.proofs.Laws.Forms.{stands_end}
 use Rattle.structural.proofs.Laws.Forms as structural_laws
 use Rattle.bits.specs.Laws.Runs.{length_bits_at}
-use Rattle.told.specs.declared.Parts.{Parts}
-use Rattle.told.specs.declared.Parts.TheVariants.{Types}
+use Rattle.types.specs.declared.forms.Parts.{Parts}
+use Rattle.types.specs.declared.forms.Parts.TheVariants.{Types}
 use Rattle.told.specs.declared.Form.{Form}
 use Rattle.told.specs.declared.Form.TheVariants as form
 use Rattle.told.specs.Forms.{form_of, Read, record_bits, GivenParts, hops, Hops}
@@ -120,8 +120,7 @@ pub record SumFramed (n i d : ℕ) (s E val : List ℕ) (p v : ℕ) : Type 0 whe
   pub same : frame_at d s val p v ≡ chosen (d - 1) s val n i (width (structural.standing d s p)) (hops E i (p + 1)) (v + 1)
 
 pub record ListFramed (b : NonZeroPow2Usize) (m d : ℕ) (s E val : List ℕ) (p v : ℕ) : Type 0 where
-  pub fair : FairBound b
-  pub less : m < b.0
+  pub less : m < b.value
   pub there : v < length val / 36
   pub given : Stands (d - 1) s E (p + 1)
   pub same : frame_at d s val p v ≡ listed (d - 1) s val b m (p + 1) (v + 1)
@@ -185,4 +184,4 @@ module _ {d : ℕ} {s E : List ℕ} {p : ℕ} (val : List ℕ) (v : ℕ) {buf : 
     unfolding frame_at listed
     as_list {b} {m} q =
         let u = told_laws.as_list g shaped.told e f i q in
-        record { fair = u.fair; less = u.less; there = u.there; given = u.given; same = ap₂ framed (typed (form.List b m) q) u.same }
+        record { less = u.less; there = u.there; given = u.given; same = ap₂ framed (typed (form.List b m) q) u.same }

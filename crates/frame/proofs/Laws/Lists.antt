@@ -5,19 +5,17 @@ use Rattle.std.proofs.Common.{◌∙◌, append-nil, inl, inr, arith}
 use Rattle.std.proofs.Math.Option.{none, some}
 use Rattle.num.specs.declared.NonZeroPow2Usize.{NonZeroPow2Usize}
 use Rattle.num.specs.Powers.{half_bound}
-use Rattle.num.specs.Laws.{half_bound_more}
+use Rattle.num.specs.Laws.{no_half}
 use Rattle.model.specs.Options.{pick, map_o}
 use Rattle.model.specs.Bytes.{zeros}
 use Rattle.model.specs.Structural.{SType, 𝟙, ◌⊕◌, right}
 use Rattle.model.specs.Frames.{width, bits}
 use Rattle.model.proofs.Laws.Sizes.{width_array}
-use Rattle.types.specs.Heads.{FairBound}
 use Rattle.structural.specs.declared.Parts.TheVariants as parts
 use Rattle.structural.specs.Forms as structural
-use Rattle.structural.proofs.Laws.Bounds.{Power, power_of}
 use Rattle.structural.proofs.Laws.Trees.{copies}
 use Rattle.structural.proofs.Laws.Lists.{list_two, list_more}
-use Rattle.told.specs.declared.Parts.TheVariants.{Copies}
+use Rattle.types.specs.declared.forms.Parts.TheVariants.{Copies}
 use Rattle.told.specs.Forms.{Told}
 use Rattle.told.specs.Forms as told
 use Rattle.told.specs.Laws.Lists.{tagged, block_told, block_share, block_none, block_some, listed_two, listed_more}
@@ -54,29 +52,27 @@ module _ (d : ℕ) (s val : List ℕ) where
 
   -- LISTS
 
-  pub list_block : {b : NonZeroPow2Usize} (m p v : ℕ) → FairBound b → None ≡ half_bound b.0 → listed d s val b m p v ≡ block d s val 1 m p v
+  pub list_block : (m p v : ℕ) (b : NonZeroPow2Usize) → None ≡ half_bound b → listed d s val b m p v ≡ block d s val 1 m p v
   unfolding listed block
-  list_block m p v f h = ap₂ framed (list_two d s p f h) (listed_two d s val m p v f h)
+  list_block m p v b h = ap₂ framed (list_two d s p b h) (listed_two d s val m p v b h)
 
   -- the half h of the bound b, and the share n of m elements that the block of h takes
   pub record Halved (b h : NonZeroPow2Usize) (m n p v : ℕ) : Type 0 where
-    pub fair : FairBound h
-    pub less : h.0 < b.0
+    pub less : h.value < b.value
     pub most : n ≤ m
-    pub others : m - n < h.0
-    pub same : listed d s val b m p v ≡ and_then (block d s val h.0 n p v) (listed d s val h (m - n) p)
+    pub others : m - n < h.value
+    pub same : listed d s val b m p v ≡ and_then (block d s val h.value n p v) (listed d s val h (m - n) p)
 
-  pub list_halved : {b h : NonZeroPow2Usize} (m n p v : ℕ) → FairBound b → Some h ≡ half_bound b.0 → m < b.0 → n ≡ block_share m h.0 → Halved b h m n p v
+  pub list_halved : {b h : NonZeroPow2Usize} (m n p v : ℕ) → Some h ≡ half_bound b → m < b.value → n ≡ block_share m h.value → Halved b h m n p v
   unfolding listed block
-  list_halved {b} {h} m n p v f q l e =
-      let t = listed_more d s val m n p v f q l e in
-      let u = list_more d s p f q in
+  list_halved {b} {h} m n p v q l e =
+      let t = listed_more d s val m n p v q l e in
+      let u = list_more d s p q in
       record {
-        fair = t.fair;
         less = t.less;
         most = t.most;
         others = t.others;
-        same = ap₂ framed u.same t.same ∙ framed_pair (structural.block_of d s h.0 p) (structural.listed d s h p) (block_told d s val n p v) (told.listed d s val h (m - n) p);
+        same = ap₂ framed u.same t.same ∙ framed_pair (structural.block_of d s h.value p) (structural.listed d s h p) (block_told d s val n p v) (told.listed d s val h (m - n) p);
       }
 
 -- a block takes none or all that it has place for
@@ -88,16 +84,9 @@ share_all m n k e = go (ltb m n) e
     go false e = inr e
 
 -- with the bound 2 there is one element at most
-pub share_one : {b : NonZeroPow2Usize} (m : ℕ) → FairBound b → None ≡ half_bound b.0 → m < b.0 → (m ≡ 0) ⊎ (m ≡ 1)
-share_one {b} m f h l = go f.exponent (power_of f)
+pub share_one : (m : ℕ) (b : NonZeroPow2Usize) → None ≡ half_bound b → m < b.value → (m ≡ 0) ⊎ (m ≡ 1)
+share_one m b h l = few m (omega (arith, (no_half {b = b} h).power))
   where
     few : (m : ℕ) → m < 2 → (m ≡ 0) ⊎ (m ≡ 1)
     few zero k = inl refl
     few (suc m) k = inr (omega arith)
-
-    go : (e : ℕ) → Power b e → (m ≡ 0) ⊎ (m ≡ 1)
-    go zero k = few m (omega (arith, k.power))
-    go (suc e) k =
-        let m = ap half_bound k.power in
-        let o = half_bound_more e in
-        let z : ◌≡◌ {A = ℕ} 0 1 = cc in absurd (omega arith)

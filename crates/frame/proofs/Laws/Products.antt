@@ -14,8 +14,8 @@ use Rattle.structural.specs.declared.Parts.{Parts}
 use Rattle.structural.specs.declared.Parts.TheVariants as parts
 use Rattle.structural.specs.Forms as structural
 use Rattle.structural.proofs.Laws.Trees.{row_stays}
-use Rattle.told.specs.declared.Parts as told_parts
-use Rattle.told.specs.declared.Parts.TheVariants.{Copies, Types}
+use Rattle.types.specs.declared.forms.Parts as told_parts
+use Rattle.types.specs.declared.forms.Parts.TheVariants.{Copies, Types}
 use Rattle.told.specs.Forms.{Told, record_bits, bits_told}
 use Rattle.told.specs.Forms as told
 use Rattle.told.specs.Laws.Trees.{Shapes, joined, row_length}

@@ -1,9 +1,9 @@
 -- A type file that is refused refuses the call.
-use Rattle.std.proofs.Common.{◌≡◌, rules, Err}
+use Rattle.std.proofs.Common.{◌≡◌, refl, rules, Err}
 use Rattle.delivery.specs.Shapes.{count_refused}
 use Rattle.niegluk.proofs.shape_records.Goals as goal
 
-pub returns-in_err-tabulate : goal.returns-in_err-tabulate
-returns-in_err-tabulate c =
-    let z : c.from_residual.result ≡ Err c.in_err-tabulate.field-0.0 = search rules in
-    rw z (count_refused c.tabulate.ensures _ c.in_err-tabulate.was)
+pub returns-in_err-table : goal.returns-in_err-table
+returns-in_err-table c =
+    let z : c.from_residual.result ≡ Err c.in_err-table.field-0.0 = search rules in
+    rw z (count_refused c.in_err-table.ensures _ refl)

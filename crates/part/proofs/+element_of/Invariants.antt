@@ -3,4 +3,4 @@
 use Rattle.part.proofs.+element_of.Given as goal
 
 abbrev pub decreases-element_of : goal.decreases-element_of
-decreases-element_of l = l.bound.0
+decreases-element_of l = l.bound.value

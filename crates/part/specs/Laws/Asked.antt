@@ -1,16 +1,17 @@
 -- What is found at each step, and what is known there, in the form in which the code's needs ask it.
-use Rattle.std.specs.Prelude.{◌≡◌, Bool, not, List, [], ◌∷◌, map, ltb, length, take, drop, Some, None, Option as Optional, Result, Ok, Err}
+use Rattle.std.specs.Prelude.{◌≡◌, Bool, not, List, [], ◌∷◌, map, ltb, eqb, length, take, drop, Some, None, Option as Optional, Result, Err, ok_or}
+use Rattle.std.specs.Bool.{then_some}
+use Rattle.std.specs.Int.{from_bool}
 use Rattle.std.proofs.Math.Path.{refl, sym, ap, subst}
 use Rattle.std.proofs.Common.{◌∙◌, mul-le-mul_right, length-drop, get_or-take, get_or-drop, drop-drop, lt-ltb, le-ltb, eq-eqb, ne_eqb}
 use Rattle.std.proofs.Math.Bool.{true, false}
 use Prim.Native.Nat.{ℕ, zero, suc, ◌+◌, ◌-◌, ◌*◌, ◌^◌, ◌/◌, ◌%◌, ◌≤◌, ◌<◌}
-use Rattle.std.proofs.Math.Nat.{two-pow-succ, one-le-pow}
 use Rattle.std.proofs.Math.Numerals.{sub-one}
 use native.Mathlib.Omega.{arith}
 use Rattle.std.proofs.Math.ListN.{get_or}
 use Rattle.num.specs.declared.NonZeroPow2Usize.{NonZeroPow2Usize}
-use Rattle.num.specs.Powers.{bound, bound_log2, half_bound}
-use Rattle.num.specs.Laws.{bounded, bound_power, half_bound_two, half_bound_more}
+use Rattle.num.specs.Powers.{bound_two, bound_log2, half_bound}
+use Rattle.num.specs.Laws.{no_half, HalfOf, half_of}
 use Rattle.model.specs.Options.{pick}
 use Rattle.model.specs.Outcome.{done, refuse, ◌>>◌}
 use Rattle.model.specs.Numbers.{path_odd}
@@ -28,7 +29,7 @@ use Rattle.types.specs.declared.Head.TheVariants.{Missing, Faulty, Never, Boolea
 use Rattle.types.specs.declared.Rec.{Rec}
 use Rattle.types.specs.declared.Rec.TheVariants.{Gone, Wrong, Types, Enum, Variant}
 use Rattle.types.specs.Record.{head_at, rec_at}
-use Rattle.types.specs.Heads.{Fair, FairBound}
+use Rattle.types.specs.Heads.{Fair}
 use Rattle.types.specs.Walks.{walk}
 use Rattle.types.specs.Trees.{kids, node, payload, tree, treev}
 use Rattle.types.specs.Steps.{Given, GivenRow, given_levels, given_within, given_inside, given_below, given_head, given_first, given_end, tree_in, treev_in}
@@ -36,13 +37,12 @@ use Rattle.types.specs.Lows.{low}
 use Rattle.structural.specs.Forms.{Stands, is_variant}
 use Rattle.structural.specs.Forms as structural
 use Rattle.structural.proofs.Laws.Forms.{stands, standing_is}
-use Rattle.structural.proofs.Laws.Bounds.{Power, power_of}
 use Rattle.bits.specs.Bits.{Inside}
 use Rattle.told.specs.Forms.{hops, Hops}
 use Rattle.told.specs.Widths.{Wide}
 use Rattle.told.specs.Laws.Rows.{first, rest, hopped}
-use Rattle.record.specs.declared.Form.TheVariants as form
-use Rattle.record.specs.Forms.{form_of}
+use Rattle.types.specs.declared.forms.Form.TheVariants as form
+use Rattle.types.specs.Forms.{form_of}
 use Rattle.accept.specs.Forms.{tag_at, choice_in}
 use Rattle.accept.specs.Laws.Sums.{choice_less}
 use Rattle.accept.specs.Laws.Formed.{copies_wide}
@@ -50,11 +50,10 @@ use Rattle.unframe.specs.declared.Choice.{Choice}
 use Rattle.unframe.specs.Forms.{height, Chosen}
 use Rattle.unframe.specs.Laws.Formed.{SumFramed, as_product, as_sum, as_list}
 use Rattle.part.specs.declared.Spot.{Spot}
-use Rattle.part.specs.Forms.{spot, wide_row, among, copy, element, wide_list, listed, in_variant, side, variant, step_at, below, further, follow, picks_from, target, led_to, found_in, Rowed, Cased}
+use Rattle.part.specs.Forms.{spot, wide_row, among, copy, element, wide_list, listed, in_variant, side, variant, step_at, below, follow, picks_from, target, led_to, found_in, Rowed, Cased}
 use Rattle.part.specs.Holds.{Holds}
 use Rattle.part.specs.Laws.Holds.{holding_stands, holding_inside}
 use Rattle.part.specs.Laws.Rows.{wide_is}
-use Rattle.part.specs.Laws.Steps.{step_holds}
 
 -- what a test picks where it holds, and where it does not
 picked : {A : Type 0} {b : Bool} (a x : A) → b ≡ true → pick b a x ≡ a
@@ -62,6 +61,10 @@ picked a x e = ap (λ b. pick b a x) e
 
 passed : {A : Type 0} {b : Bool} (a x : A) → b ≡ false → pick b a x ≡ x
 passed a x e = ap (λ b. pick b a x) e
+
+tested : {A : Type 0} (b : Bool) (a : A) → then_some b a ≡ pick b (Some a) None
+tested true a = refl
+tested false a = refl
 
 -- PARTS IN A ROW
 
@@ -170,70 +173,72 @@ at_last_tag : (d : ℕ) (W : List ℕ) (p : ℕ) (fr : List ℕ) (bit i : ℕ) (
 unfolding element
 at_last_tag d W p fr bit i x t = ap {B = Optional Spot} (λ x. elim x [ false ↦ None | true ↦ copy d W 1 p (bit + 1) i ]) t
 
--- with the bound 2 a list is a block of 1
+-- one copy or none takes no more than one
+pub copies_few : (t : Bool) {n : ℕ} → n ≡ from_bool t → (w : ℕ) → n * w ≤ w
+copies_few t e w = rw e (go t)
+  where
+    go : (t : Bool) → from_bool t * w ≤ w
+    go true = omega arith
+    go false = omega arith
+
+-- with the bound 2 a list is a block of 1 or of none
+last_same : (d : ℕ) (W : List ℕ) (p : ℕ) (fr : List ℕ) (bit i : ℕ) (t : Bool) → tag_at fr bit ≡ t → copy d W (from_bool t) p (bit + 1) i ≡ element d W 0 p fr bit i
+last_same d W p fr bit i true x = sym (at_last_tag d W p fr bit i true x)
+last_same d W p fr bit i false x = sym (copy_none d W 0 p (bit + 1) i (omega arith)) ∙ sym (at_last_tag d W p fr bit i false x)
+
 pub record Last (b : NonZeroPow2Usize) (d : ℕ) (W : List ℕ) (p : ℕ) (fr : List ℕ) (bit i : ℕ) : Type 0 where
-  pub wide : wide_list (bound_log2 b.0 - 1) (get_or W p 0) ≡ suc (get_or W p 0)
-  pub missing : tag_at fr bit ≡ false → None ≡ listed d W b p fr bit i
-  pub there : tag_at fr bit ≡ true → copy d W 1 p (bit + 1) i ≡ listed d W b p fr bit i
+  pub wide : wide_list (bound_log2 b.value - 1) (get_or W p 0) ≡ suc (get_or W p 0)
+  pub same : {t : Bool} {n : ℕ} → t ≡ tag_at fr bit → n ≡ from_bool t → copy d W n p (bit + 1) i ≡ listed d W b p fr bit i
 
-pub last_block : {b : NonZeroPow2Usize} (d : ℕ) (W : List ℕ) (p : ℕ) (fr : List ℕ) (bit i : ℕ) → FairBound b → None ≡ half_bound b.0 → Last b d W p fr bit i
+pub last_block : {b : NonZeroPow2Usize} (d : ℕ) (W : List ℕ) (p : ℕ) (fr : List ℕ) (bit i : ℕ) → None ≡ half_bound b → Last b d W p fr bit i
 unfolding listed wide_list
-last_block {b} d W p fr bit i f h = go f.exponent (power_of f)
-  where
-    go : (e : ℕ) → Power b e → Last b d W p fr bit i
-    go zero k = record {
+last_block d W p fr bit i h =
+    let k = no_half h in
+    record {
       wide = rw k.log2 (omega arith);
-      missing = λ t. rw k.log2 (sym (at_last_tag d W p fr bit i false t));
-      there = λ t. rw k.log2 (sym (at_last_tag d W p fr bit i true t));
+      same = λ {t} e n. rw (k.log2, n) (last_same d W p fr bit i t (sym e));
     }
-    go (suc e) k =
-        let m = ap half_bound k.power in
-        let o = half_bound_more e in
-        let z : ◌≡◌ {A = ℕ} 0 1 = cc in absurd (omega arith)
 
--- with a larger one it is a block of the half, and the list with that bound; w is the width that the table tells of an element
+-- with a larger one it is a block of the half or of none, and the list with that bound; w is the width that the table tells of an element
+more_same : (d : ℕ) (W : List ℕ) (e p : ℕ) (fr : List ℕ) (bit i : ℕ) (t : Bool) → tag_at fr bit ≡ t →
+    (i < pick t (2 ^ suc e) 0 → copy d W (2 ^ suc e) p (bit + 1) i ≡ element d W (suc e) p fr bit i)
+    × (pick t (2 ^ suc e) 0 ≤ i → element d W e p fr (bit + 1 + 2 ^ suc e * get_or W p 0) (i - pick t (2 ^ suc e) 0) ≡ element d W (suc e) p fr bit i)
+more_same d W e p fr bit i true x =
+    let near = copy d W (2 ^ suc e) p (bit + 1) i in
+    let far = element d W e p fr (bit + 1 + 2 ^ suc e * get_or W p 0) (i - 2 ^ suc e) in
+    let a = at_tag d W e p fr bit i true x in
+    (λ l. sym (a ∙ picked near far (lt-ltb i (2 ^ suc e) l)), λ l. sym (a ∙ passed near far (le-ltb i (2 ^ suc e) l)))
+more_same d W e p fr bit i false x =
+    let z : i - 0 ≡ i = omega arith in
+    (λ l. absurd (omega arith), λ l. ap (element d W e p fr (bit + 1 + 2 ^ suc e * get_or W p 0)) z ∙ sym (at_tag d W e p fr bit i false x))
+
 pub record More (b h : NonZeroPow2Usize) (n w d : ℕ) (W : List ℕ) (p : ℕ) (fr : List ℕ) (bit i : ℕ) : Type 0 where
-  pub fair : FairBound h
-  pub less : h.0 < b.0
-  pub wide : wide_list (bound_log2 b.0 - 1) (get_or W p 0) ≡ suc (n * w) + wide_list (bound_log2 h.0 - 1) (get_or W p 0)
-  pub missing : tag_at fr bit ≡ false → listed d W h p fr (bit + 1 + n * w) i ≡ listed d W b p fr bit i
-  pub near : tag_at fr bit ≡ true → i < n → copy d W n p (bit + 1) i ≡ listed d W b p fr bit i
-  pub far : tag_at fr bit ≡ true → n ≤ i → listed d W h p fr (bit + 1 + n * w) (i - n) ≡ listed d W b p fr bit i
+  pub less : h.value < b.value
+  pub wide : wide_list (bound_log2 b.value - 1) (get_or W p 0) ≡ suc (n * w) + wide_list (bound_log2 h.value - 1) (get_or W p 0)
+  pub near : {t : Bool} {len : ℕ} → t ≡ tag_at fr bit → len ≡ pick t n 0 → i < len → copy d W n p (bit + 1) i ≡ listed d W b p fr bit i
+  pub far : {t : Bool} {len : ℕ} → t ≡ tag_at fr bit → len ≡ pick t n 0 → len ≤ i → listed d W h p fr (bit + 1 + n * w) (i - len) ≡ listed d W b p fr bit i
 
-pub more_blocks : {b h : NonZeroPow2Usize} (d : ℕ) (W : List ℕ) (p : ℕ) (fr : List ℕ) (bit i : ℕ) → FairBound b → Some h ≡ half_bound b.0 → {n w : ℕ} → n ≡ h.0 → w ≡ get_or W p 0 → More b h n w d W p fr bit i
+pub more_blocks : {b h : NonZeroPow2Usize} (d : ℕ) (W : List ℕ) (p : ℕ) (fr : List ℕ) (bit i : ℕ) → Some h ≡ half_bound b → {n w : ℕ} → n ≡ h.value → w ≡ get_or W p 0 → More b h n w d W p fr bit i
 unfolding listed wide_list
-more_blocks {b} {h} d W p fr bit i f q s a = rw (s, a) (go f.exponent (power_of f))
+more_blocks {b} {h} d W p fr bit i q s a = rw (s, a) (go (half_of q))
   where
-    go : (e : ℕ) → Power b e → More b h h.0 (get_or W p 0) d W p fr bit i
-    go zero k =
-        let m = ap half_bound k.power in
-        let o = half_bound_two in
-        let z : ◌≡◌ {A = ℕ} 0 1 = cc in absurd (omega arith)
-    go (suc e) k =
-        let m = ap half_bound k.power in
-        let o = half_bound_more e in
-        let j : h ≡ bound (2 ^ suc e) = cc in
-        let a = bound_power e (omega arith) in
-        let l = (bounded (2 ^ suc e) e a).log2 in
-        rw j (record {
-          fair = record { exponent = e; admitted = a };
-          less = omega (arith, k.power, two-pow-succ (suc e), one-le-pow (suc e) 2 (omega arith));
-          wide = rw (k.log2, l, sub-one, sub-one) (omega arith);
-          missing = λ t. rw (k.log2, l, sub-one, sub-one) (sym (at_tag d W e p fr bit i false t));
-          near = λ t n. rw (k.log2, sub-one) (sym (at_tag d W e p fr bit i true t ∙ picked (copy d W (2 ^ suc e) p (bit + 1) i) (element d W e p fr (bit + 1 + 2 ^ suc e * get_or W p 0) (i - 2 ^ suc e)) (lt-ltb i (2 ^ suc e) n)));
-          far = λ t n. rw (k.log2, l, sub-one, sub-one) (sym (at_tag d W e p fr bit i true t ∙ passed (copy d W (2 ^ suc e) p (bit + 1) i) (element d W e p fr (bit + 1 + 2 ^ suc e * get_or W p 0) (i - 2 ^ suc e)) (le-ltb i (2 ^ suc e) n)));
-        })
+    go : HalfOf b h → More b h h.value (get_or W p 0) d W p fr bit i
+    go k =
+        let e = k.exponent in
+        record {
+          less = k.less;
+          wide = rw (k.log2_twice, k.log2, k.power, sub-one, sub-one) (omega arith);
+          near = λ {t} x y n. rw (k.log2_twice, k.power, sub-one) ((more_same d W e p fr bit i t (sym x)).0 (rw (y, k.power) at n));
+          far = λ {t} x y n. rw (k.log2_twice, k.log2, y, k.power, sub-one, sub-one) ((more_same d W e p fr bit i t (sym x)).1 (rw (y, k.power) at n));
+        }
 
 -- CHOICES
 
 module _ {E : List ℕ} {p : ℕ} {c : Choice} (d i : ℕ) (fr : List ℕ) (bit : ℕ) (h : Chosen E p (choice_in 2 fr bit) c) where
-  pub side_taken : i ≡ c.number → Some (spot c.at d c.bit) ≡ side d E p fr bit i
+  -- the side that the tag leads to, if it was asked for
+  pub side_told : then_some (eqb i c.number) (spot c.at d c.bit) ≡ side d E p fr bit i
   unfolding side
-  side_taken e = rw (h.stands_at, h.begins) (sym (picked (Some (spot (hops E (choice_in 2 fr bit).0 p) d (choice_in 2 fr bit).1)) None (eq-eqb i (choice_in 2 fr bit).0 (e ∙ h.number))))
-
-  pub side_other : (i ≡ c.number → ⊥) → None ≡ side d E p fr bit i
-  unfolding side
-  side_other n = sym (passed (Some (spot (hops E (choice_in 2 fr bit).0 p) d (choice_in 2 fr bit).1)) None (ne_eqb i (choice_in 2 fr bit).0 (λ e. n (e ∙ sym h.number))))
+  side_told = let x = choice_in 2 fr bit in rw (h.number, h.stands_at, h.begins) (tested (eqb i x.0) (spot (hops E x.0 p) d x.1))
 
 module _ {E : List ℕ} {p : ℕ} {c : Choice} (n : ℕ) (fr : List ℕ) (bit : ℕ) (h : Chosen E p (choice_in n fr bit) c) where
   pub choice_inside : 1 ≤ n → Hops E n p → c.at < length E
@@ -344,22 +349,22 @@ module _ {d : ℕ} {s E W : List ℕ} {p : ℕ} {fr : List ℕ} {bit : ℕ} {h :
       (omega arith, omega arith)
 
   -- of a List, and of an Option, which is the list with the bound 2
-  list_asked : (b : NonZeroPow2Usize) → form_of h ≡ form.List b → FairBound b × ((p + 1 < length W) × Inside fr bit (wide_list (bound_log2 b.0 - 1) (get_or W (p + 1) 0)))
+  list_asked : (b : NonZeroPow2Usize) → form_of h ≡ form.List b → (p + 1 < length W) × Inside fr bit (wide_list (bound_log2 b.value - 1) (get_or W (p + 1) 0))
   unfolding structural.listed
   list_asked b i =
       let k = as_list stands_there e f refl i in
       let l = given_within k.given.given in
       let m = w.long in
       let c = k.wide in
-      let r = wide_partition (bound_log2 b.0 - 1) (get_or W (p + 1) 0) (structural.standing (d - 1) s (p + 1)) (w.right (d - 1) (p + 1) k.given) in
+      let r = wide_partition (bound_log2 b.value - 1) (get_or W (p + 1) 0) (structural.standing (d - 1) s (p + 1)) (w.right (d - 1) (p + 1) k.given) in
       let (u, v) = inside_there in
-      (k.fair, (omega arith, (omega arith, omega arith)))
+      (omega arith, (omega arith, omega arith))
 
-  pub listed_asked : {b : NonZeroPow2Usize} → h ≡ Listed b → FairBound b × ((p + 1 < length W) × Inside fr bit (wide_list (bound_log2 b.0 - 1) (get_or W (p + 1) 0)))
+  pub listed_asked : {b : NonZeroPow2Usize} → h ≡ Listed b → (p + 1 < length W) × Inside fr bit (wide_list (bound_log2 b.value - 1) (get_or W (p + 1) 0))
   listed_asked {b} i = list_asked b (ap form_of i)
 
-  pub option_asked : h ≡ Opt → FairBound (bound 2) × ((p + 1 < length W) × Inside fr bit (wide_list (bound_log2 2 - 1) (get_or W (p + 1) 0)))
-  option_asked i = list_asked (bound 2) (ap form_of i)
+  pub option_asked : h ≡ Opt → (p + 1 < length W) × Inside fr bit (wide_list (bound_log2 2 - 1) (get_or W (p + 1) 0))
+  option_asked i = list_asked bound_two (ap form_of i)
 
   -- of an Either and an Enum
   sum_inside : {n : ℕ} → SumFramed h n d s E p → Inside fr bit (height (btree n))
@@ -415,44 +420,25 @@ picks_next path j l =
     picks_at path (2 * j) l ∙ rw (e, f) refl
 
 -- and behind the last there is none
-pub picks_none : (path : List ℕ) (j : ℕ) → length path ≤ j → picks_from path j ≡ []
+pub picks_none : (path : List ℕ) (j : ℕ) → length path < j + 2 → picks_from path j ≡ []
 unfolding picks_from
 picks_none path j l =
     let a : length (drop j path) / 2 ≡ 0 = ap (λ n. n / 2) (length-drop j path) ∙ omega arith in
     ap (λ n. map (λ step. two_at step 0) (cut 2 n (drop j path))) a
-
--- j steps of a path were followed: what is left of it leads on from the place that was reached
-pub record Followed (s E W fr path : List ℕ) (x : Spot) (j : ℕ) : Type 0 where
-  pub holds : Holds x.level s E x.at fr x.bit
-  pub same : found_in s E W fr path ≡ target (follow x.level s E W x.at fr x.bit (picks_from path (2 * j)))
 
 module _ (s E W fr path : List ℕ) where
   pub path_odd_refused : (length path % 2 ≡ 0 → ⊥) → Err PathOdd ≡ found_in s E W fr path
   unfolding found_in steps
   path_odd_refused h = ap {B = Result Spot Refusal} (λ b. led_to (refuse path_odd (not b) >> done (map (λ step. two_at step 0) (records 2 path))) (follow 32 s E W 0 fr 0)) (sym (ne_eqb (length path % 2) 0 h))
 
-  pub followed_start : Holds 32 s E 0 fr 0 → length path % 2 ≡ 0 → Followed s E W fr path (spot 0 32 0) 0
+  -- a path of whole steps leads where its steps lead
+  pub found_even : length path % 2 ≡ 0 → found_in s E W fr path ≡ target (follow 32 s E W 0 fr 0 (picks_from path 0))
   unfolding found_in steps picks_from
-  followed_start o h = record {
-    holds = o;
-    same = ap {B = Result Spot Refusal} (λ b. led_to (refuse path_odd (not b) >> done (map (λ step. two_at step 0) (records 2 path))) (follow 32 s E W 0 fr 0)) (eq-eqb (length path % 2) 0 h);
-  }
+  found_even h = ap {B = Result Spot Refusal} (λ b. led_to (refuse path_odd (not b) >> done (map (λ step. two_at step 0) (records 2 path))) (follow 32 s E W 0 fr 0)) (eq-eqb (length path % 2) 0 h)
 
-module _ {s E W fr path : List ℕ} {x : Spot} {j : ℕ} (h : Followed s E W fr path x j) where
-  module _ {i : ℕ} (l : j < length path / 2) (e : i ≡ two_at path (2 * j)) {r : Optional Spot} (k : r ≡ step_at x.level s E W x.at fr x.bit i) where
-    one_more : found_in s E W fr path ≡ target (further r (λ q e b. follow e s E W q fr b (picks_from path (2 * (j + 1)))))
-    unfolding follow
-    one_more = h.same ∙ ap (λ picks. target (follow x.level s E W x.at fr x.bit picks)) (picks_next path j (omega arith)) ∙ rw (← e, ← k) refl
-
-    pub followed_nowhere : r ≡ None → Err NoSuchPart ≡ found_in s E W fr path
-    followed_nowhere g = sym (one_more ∙ ap (λ o. target (further o (λ q e b. follow e s E W q fr b (picks_from path (2 * (j + 1)))))) g)
-
-    pub followed_next : Wide s E W → {y : Spot} → r ≡ Some y → Followed s E W fr path y (j + 1)
-    followed_next w {y} g = record {
-      holds = step_holds h.holds w i (sym k ∙ g);
-      same = one_more ∙ ap (λ o. target (further o (λ q e b. follow e s E W q fr b (picks_from path (2 * (j + 1)))))) g;
-    }
-
-  pub followed_end : length path ≤ 2 * j → Ok x ≡ found_in s E W fr path
-  unfolding follow
-  followed_end l = sym (h.same ∙ ap (λ picks. target (follow x.level s E W x.at fr x.bit picks)) (picks_none path (2 * j) l))
+  pub found_led : length path % 2 ≡ 0 → {r : Optional Spot} → r ≡ follow 32 s E W 0 fr 0 (picks_from path 0) → ok_or r NoSuchPart ≡ found_in s E W fr path
+  found_led h {r} e = as_target r ∙ ap target e ∙ sym (found_even h)
+    where
+      as_target : (r : Optional Spot) → ok_or r NoSuchPart ≡ target r
+      as_target None = refl
+      as_target (Some x) = refl

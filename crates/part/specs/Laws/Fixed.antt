@@ -1,21 +1,18 @@
 -- A path through Tuples and Arrays: what is known at each step, and that it leads to the same place in every frame.
 use Rattle.std.proofs.Math.Path.{◌≡◌, refl, sym, ap}
-use Rattle.std.proofs.Common.{◌∙◌, arith, eq-eqb}
-use Rattle.std.specs.Prelude.{List, [], ◌∷◌, map, not, ℕ, ◌+◌, ◌-◌, ◌*◌, ◌/◌, ◌%◌, ◌≤◌, ◌<◌, length, Option as Optional, Some, None, Result, Ok}
-use Rattle.model.specs.Numbers.{path_odd}
-use Rattle.model.specs.Outcome.{done, refuse, ◌>>◌}
-use Rattle.model.specs.Bytes.{records, two_at}
-use Rattle.model.specs.Paths.{steps}
-use Rattle.reply.specs.declared.Refusal.{Refusal}
+use Rattle.std.proofs.Common.{◌∙◌, arith}
+use Rattle.std.specs.Prelude.{List, [], ◌∷◌, ℕ, ◌+◌, ◌-◌, ◌*◌, ◌/◌, ◌%◌, ◌≤◌, ◌<◌, length, Option as Optional, Some, None, Ok}
+use Rattle.model.specs.Bytes.{two_at}
+use Rattle.num.specs.declared.NonZeroPow2Usize.{NonZeroPow2Usize}
 use Rattle.types.specs.declared.Head.{Head}
 use Rattle.types.specs.declared.Head.TheVariants.{Missing, Faulty, Never, Boolean, UInt, Either, Opt, Tuple, Array, Listed, Variants, Payload}
 use Rattle.types.specs.Record.{head_at}
 use Rattle.told.specs.Widths.{Wide}
 use Rattle.part.specs.declared.Spot.{Spot}
-use Rattle.part.specs.Forms.{spot, step_at, below, further, follow, picks_from, target, led_to, found_in, fixed_below, fixed_at, fixed, fixed_in}
-use Rattle.part.specs.Holds.{Held}
+use Rattle.part.specs.Forms.{spot, step_at, below, further, follow, picks_from, target, found_in, fixed_below, fixed_at, fixed, stepped, followed, fixed_in}
+use Rattle.part.specs.Holds.{Held, HoldsIn}
 use Rattle.part.specs.Laws.Steps.{step_holds}
-use Rattle.part.specs.Laws.Asked.{picks_next, picks_none}
+use Rattle.part.specs.Laws.Asked.{step_says, step_none, picks_next, picks_none, found_even}
 
 -- A STEP
 
@@ -63,6 +60,25 @@ module _ (d : ℕ) (s E W : List ℕ) (p bit i : ℕ) where
   unfolding fixed_at step_at
   step_fixed fr k = below_fixed fr (head_at s p) k
 
+-- IN A FRAME OR IN ALL
+
+-- some value stands there in some frame
+pub held_in : {d : ℕ} {s E : List ℕ} {p : ℕ} (o : Optional (List ℕ)) {bit : ℕ} → HoldsIn d s E p o bit → Held d s E p bit
+held_in (Some fr) h = record { frame = fr; holds = h }
+held_in None h = h
+
+-- a step that is told by the record alone
+pub both_say : (d : ℕ) (s E W : List ℕ) (p : ℕ) (o : Optional (List ℕ)) (bit i : ℕ) {h : Head} (k : Head) {r : Optional Spot} → ((fr : List ℕ) → below k (d - 1) s E W (p + 1) fr bit i ≡ r) → fixed_below k (d - 1) E W (p + 1) bit i ≡ r
+    → h ≡ head_at s p → h ≡ k → r ≡ stepped d s E W p o bit i
+both_say d s E W p (Some fr) bit i k a b e f = sym (a fr) ∙ step_says d s E W p fr bit i _ k e f
+both_say d s E W p None bit i k a b e f = sym b ∙ fixed_says d s E W p bit i _ k e f
+
+-- nowhere, if it says none of the kinds that have parts
+pub stepped_none : (d : ℕ) (s E W : List ℕ) (p : ℕ) (o : Optional (List ℕ)) (bit i : ℕ) {h : Head} → h ≡ head_at s p → (h ≡ Either → ⊥) → (h ≡ Opt → ⊥) → ((n : ℕ) → h ≡ Tuple n → ⊥) → ((n : ℕ) → h ≡ Array n → ⊥) → ((b : NonZeroPow2Usize) → h ≡ Listed b → ⊥) → ((n : ℕ) → h ≡ Variants n → ⊥)
+    → None ≡ stepped d s E W p o bit i
+stepped_none d s E W p (Some fr) bit i e a b c f g j = step_none d s E W p fr bit i e a b c f g j
+stepped_none d s E W p None bit i e a b c f g j = fixed_none d s E W p bit i e c f
+
 -- A PATH
 
 -- it leads to one place in all frames
@@ -76,37 +92,48 @@ follow_fixed s E W fr (i ∷ picks) d p bit {q} {e} {b} k = go (λ c r a. follow
     go rec (Some x) f l = rw (step_fixed d s E W p bit i fr f) (rec x.level x.at x.bit l)
 
 pub found_fixed : (s E W path : List ℕ) → length path % 2 ≡ 0 → {p d bit : ℕ} → Some (spot p d bit) ≡ fixed_in s E W path → (fr : List ℕ) → Ok (spot p d bit) ≡ found_in s E W fr path
-unfolding fixed_in found_in steps picks_from
-found_fixed s E W path h {p} {d} {bit} k fr =
-    let e : led_to (steps path) (follow 32 s E W 0 fr 0) ≡ target (follow 32 s E W 0 fr 0 (picks_from path 0)) = ap {B = Result Spot Refusal} (λ b. led_to (refuse path_odd (not b) >> done (map (λ step. two_at step 0) (records 2 path))) (follow 32 s E W 0 fr 0)) (eq-eqb (length path % 2) 0 h) in
-    sym (e ∙ ap target (follow_fixed s E W fr (picks_from path 0) 32 0 0 (sym k)))
+unfolding fixed_in
+found_fixed s E W path h k fr = sym (found_even s E W fr path h ∙ ap target (follow_fixed s E W fr (picks_from path 0) 32 0 0 (sym k)))
+
+-- a step, and then the others
+followed_more : (o : Optional (List ℕ)) (s E W : List ℕ) (d p bit i : ℕ) (picks : List ℕ) → followed d s E W p o bit (i ∷ picks) ≡ further (stepped d s E W p o bit i) (λ q e b. followed e s E W q o b picks)
+unfolding follow fixed
+followed_more (Some fr) s E W d p bit i picks = refl
+followed_more None s E W d p bit i picks = refl
+
+-- and none
+followed_none : (o : Optional (List ℕ)) (s E W : List ℕ) (d p bit : ℕ) → followed d s E W p o bit [] ≡ Some (spot p d bit)
+unfolding follow fixed
+followed_none (Some fr) s E W d p bit = refl
+followed_none None s E W d p bit = refl
+
+-- a value stands where a step leads
+stepped_holds : (o : Optional (List ℕ)) {s E W : List ℕ} (x : Spot) → HoldsIn x.level s E x.at o x.bit → Wide s E W → (i : ℕ) {y : Spot} → stepped x.level s E W x.at o x.bit i ≡ Some y → HoldsIn y.level s E y.at o y.bit
+stepped_holds (Some fr) x h w i e = step_holds h w i e
+stepped_holds None {s} {E} {W} x h w i e = record { frame = h.frame; holds = step_holds h.holds w i (step_fixed x.level s E W x.at x.bit i h.frame e) }
 
 -- j steps of a path were followed: what is left of it leads on from the place that was reached
-pub record Fixing (s E W path : List ℕ) (x : Spot) (j : ℕ) : Type 0 where
-  pub held : Held x.level s E x.at x.bit
-  pub same : fixed_in s E W path ≡ fixed x.level s E W x.at x.bit (picks_from path (2 * j))
+pub record Following (o : Optional (List ℕ)) (s E W path : List ℕ) (x : Spot) (j : ℕ) : Type 0 where
+  pub holds : HoldsIn x.level s E x.at o x.bit
+  pub same : followed 32 s E W 0 o 0 (picks_from path 0) ≡ followed x.level s E W x.at o x.bit (picks_from path (2 * j))
 
-pub fixing_start : (s E W path : List ℕ) → Held 32 s E 0 0 → Fixing s E W path (spot 0 32 0) 0
-unfolding fixed_in
-fixing_start s E W path o = record { held = o; same = refl }
+module _ (o : Optional (List ℕ)) (s E W path : List ℕ) where
+  pub following_start : HoldsIn 32 s E 0 o 0 → Following o s E W path (spot 0 32 0) 0
+  following_start h = record { holds = h; same = refl }
 
-module _ {s E W path : List ℕ} {x : Spot} {j : ℕ} (h : Fixing s E W path x j) where
-  module _ {i : ℕ} (l : j < length path / 2) (e : i ≡ two_at path (2 * j)) {r : Optional Spot} (k : r ≡ fixed_at x.level s E W x.at x.bit i) where
-    one_more : fixed_in s E W path ≡ further r (λ q e b. fixed e s E W q b (picks_from path (2 * (j + 1))))
-    unfolding fixed
-    one_more = h.same ∙ ap (fixed x.level s E W x.at x.bit) (picks_next path j (omega arith)) ∙ rw (← e, ← k) refl
+module _ {o : Optional (List ℕ)} {s E W path : List ℕ} {x : Spot} {j : ℕ} (h : Following o s E W path x j) where
+  module _ {i : ℕ} (l : j < length path / 2) (e : i ≡ two_at path (2 * j)) {r : Optional Spot} (k : r ≡ stepped x.level s E W x.at o x.bit i) where
+    abbrev on : Optional Spot → Optional Spot
+    on r = further r (λ q e b. followed e s E W q o b (picks_from path (2 * (j + 1))))
 
-    pub fixing_nowhere : r ≡ None → None ≡ fixed_in s E W path
-    fixing_nowhere g = sym (one_more ∙ ap (λ o. further o (λ q e b. fixed e s E W q b (picks_from path (2 * (j + 1))))) g)
+    one_more : followed 32 s E W 0 o 0 (picks_from path 0) ≡ on r
+    one_more = h.same ∙ ap (followed x.level s E W x.at o x.bit) (picks_next path j (omega arith)) ∙ followed_more o s E W x.level x.at x.bit (two_at path (2 * j)) (picks_from path (2 * (j + 1))) ∙ rw (← e, ← k) refl
 
-    pub fixing_next : Wide s E W → {y : Spot} → r ≡ Some y → Fixing s E W path y (j + 1)
-    fixing_next w {y} g =
-        let fr = h.held.frame in
-        record {
-          held = record { frame = fr; holds = step_holds h.held.holds w i (step_fixed x.level s E W x.at x.bit i fr (sym k ∙ g)) };
-          same = one_more ∙ ap (λ o. further o (λ q e b. fixed e s E W q b (picks_from path (2 * (j + 1))))) g;
-        }
+    pub following_nowhere : r ≡ None → None ≡ followed 32 s E W 0 o 0 (picks_from path 0)
+    following_nowhere g = sym (one_more ∙ ap on g)
 
-  pub fixing_end : length path ≤ 2 * j → Some x ≡ fixed_in s E W path
-  unfolding fixed
-  fixing_end l = sym (h.same ∙ ap (fixed x.level s E W x.at x.bit) (picks_none path (2 * j) l))
+    pub following_next : Wide s E W → {y : Spot} → r ≡ Some y → Following o s E W path y (j + 1)
+    following_next w {y} g = record { holds = stepped_holds o x h.holds w i (sym k ∙ g); same = one_more ∙ ap on g }
+
+  pub following_end : length path / 2 ≤ j → Some x ≡ followed 32 s E W 0 o 0 (picks_from path 0)
+  following_end l = sym (h.same ∙ ap (followed x.level s E W x.at o x.bit) (picks_none path (2 * j) (omega arith)) ∙ followed_none o s E W x.level x.at x.bit)

@@ -11,7 +11,7 @@ use Rattle.std.proofs.Math.ListN.{length, length-append}
 use Rattle.std.proofs.lemmas.List.{length-map}
 use borrow.Author.Tests.{ltb-true, ltb-false, lt-ltb, le-ltb}
 use Rattle.num.specs.declared.NonZeroPow2Usize.{NonZeroPow2Usize}
-use Rattle.num.specs.Powers.{bound, bound_log2}
+use Rattle.num.specs.Powers.{bound_two, bound_log2}
 use Rattle.model.specs.Structural.{SType, 𝟙, ◌⊕◌, SValue, unit, left, is_unit, is_left, product_of, block, block_type, partition, partition_type}
 use Rattle.model.specs.Types.{Ty, option, list}
 use Rattle.model.specs.Lowering.{lower}
@@ -241,19 +241,19 @@ module _ (d : ℕ) (W : List ℕ) (p : ℕ) (t : SType) (fr : List ℕ) (u : get
 -- THE KINDS
 
 module _ {d : ℕ} {s E W : List ℕ} {p : ℕ} (fr : List ℕ) (bit i : ℕ) (g : Given d false s E p) (w : Wide s E W) where
-  pub list_leads : (b : NonZeroPow2Usize) → head_at s p ≡ Listed b → let t = list (tree (d - 1) s (p + 1)) (bound_log2 b.0 - 1) in (v : Value t) → Valid t v → Inside fr bit (width (lower t)) → bits_at fr bit (width (lower t)) ≡ frame after t v
+  pub list_leads : (b : NonZeroPow2Usize) → head_at s p ≡ Listed b → let t = list (tree (d - 1) s (p + 1)) (bound_log2 b.value - 1) in (v : Value t) → Valid t v → Inside fr bit (width (lower t)) → bits_at fr bit (width (lower t)) ≡ frame after t v
       → Leads s E (child after t i v) bit (listed (d - 1) W b (p + 1) fr bit i)
   unfolding child listed frame lower inject
   list_leads b e v o inside bits =
       let t = tree (d - 1) s (p + 1) in
-      let k = bound_log2 b.0 - 1 in
+      let k = bound_log2 b.value - 1 in
       let below = first (given_head (Listed b) g refl e) in
       let ss = map (λ x. inject t x) v in
       sought_leads (ahead_in_list after k (lower t) ss i) i v bit _ below
       (rw (length-map v (λ x. inject t x)) at (found (d - 1) W (p + 1) (lower t) fr (wide_is below w) k ss bit i (rw (length-map v (λ x. inject t x)) o.0) (each_shape t v o.1) (inside.0, bits)))
 
   pub option_leads : head_at s p ≡ Opt → let t = option (tree (d - 1) s (p + 1)) in (v : Value t) → Valid t v → Inside fr bit (width (lower t)) → bits_at fr bit (width (lower t)) ≡ frame after t v
-      → Leads s E (child after t i v) bit (listed (d - 1) W (bound 2) (p + 1) fr bit i)
+      → Leads s E (child after t i v) bit (listed (d - 1) W bound_two (p + 1) fr bit i)
   unfolding child listed frame lower inject bits bound_log2
   option_leads e v o inside bits = go i v bits
     where
@@ -266,10 +266,10 @@ module _ {d : ℕ} {s E W : List ℕ} {p : ℕ} (fr : List ℕ) (bit i : ℕ) (g
       tag : (b : Bool) (l : List Bool) → bits_at fr bit (width (𝟙 ⊕ lower t)) ≡ b ∷ l → tag_at fr bit ≡ b
       tag b l k = tag_is fr bit 𝟙 (lower t) b l inside.0 k
 
-      at_place : (j : ℕ) (v : Value (option t)) {x : Optional Spot} → listed (d - 1) W (bound 2) (p + 1) fr bit j ≡ x → Leads s E (child after (option t) j v) bit x → Leads s E (child after (option t) j v) bit (listed (d - 1) W (bound 2) (p + 1) fr bit j)
+      at_place : (j : ℕ) (v : Value (option t)) {x : Optional Spot} → listed (d - 1) W bound_two (p + 1) fr bit j ≡ x → Leads s E (child after (option t) j v) bit x → Leads s E (child after (option t) j v) bit (listed (d - 1) W bound_two (p + 1) fr bit j)
       at_place j v f h = subst (Leads s E (child after (option t) j v) bit) (sym f) h
 
-      go : (j : ℕ) (v : Value (option t)) → bits_at fr bit (width (𝟙 ⊕ lower t)) ≡ frame after (option t) v → Leads s E (child after (option t) j v) bit (listed (d - 1) W (bound 2) (p + 1) fr bit j)
+      go : (j : ℕ) (v : Value (option t)) → bits_at fr bit (width (𝟙 ⊕ lower t)) ≡ frame after (option t) v → Leads s E (child after (option t) j v) bit (listed (d - 1) W bound_two (p + 1) fr bit j)
       go zero none k = at_place zero none (none_there (d - 1) W (p + 1) fr bit 0 (tag false _ k)) refl
       go (suc j) none k = at_place (suc j) none (none_there (d - 1) W (p + 1) fr bit (suc j) (tag false _ k)) refl
       go zero (some x) k = at_place zero (some x) (one_there (d - 1) W (p + 1) fr bit 0 (tag true _ k) (omega arith)) (record { part = _; there = refl; given = below; same = refl; begins = omega arith })

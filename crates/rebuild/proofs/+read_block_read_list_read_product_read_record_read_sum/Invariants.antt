@@ -12,7 +12,7 @@ abbrev pub decreases-read_block : goal.decreases-read_block
 decreases-read_block l = l.level * 2 ^ 17 + l.n + 2
 
 abbrev pub decreases-read_list : goal.decreases-read_list
-decreases-read_list l = l.level * 2 ^ 17 + l.bound.0 + 4
+decreases-read_list l = l.level * 2 ^ 17 + l.bound.value + 4
 
 abbrev pub decreases-read_product : goal.decreases-read_product
 decreases-read_product l = l.level * 2 ^ 17 + l.n + 1

@@ -6,14 +6,14 @@ use Prim.Native.Nat.{ℕ, zero, suc, ◌+◌, ◌*◌, ◌≤◌}
 use Rattle.num.specs.declared.NonZeroPow2Usize.{NonZeroPow2Usize}
 use Rattle.types.specs.Record.{rec_at}
 use Rattle.types.specs.Trees.{tree, type_in}
-use Rattle.rebuild.specs.declared.Parts.{Parts}
-use Rattle.rebuild.specs.declared.Parts.TheVariants.{Bits, Copies, Types}
+use Rattle.types.specs.declared.forms.Parts.{Parts}
+use Rattle.types.specs.declared.forms.Parts.TheVariants.{Types}
 use Rattle.rebuild.specs.declared.Read.{Read}
 use Rattle.rebuild.specs.Kinds.{reads}
 use Rattle.rebuild.specs.Reads.{Reader, reader, records_in, value_records}
 use Rattle.structural.specs.Forms.{is_variant}
-use Rattle.rebuild.specs.Forms.{most_records, Few, Limits, count_of, surplus_of, skip, reading, standing, part, row, balanced, chosen, block_of, listed}
-use Rattle.rebuild.specs.Laws.Small.{Within, Fits, Small, Smalls, products_small, choices_small, bits_small, blocks_small, lists_small, tree_small, treev_small}
+use Rattle.rebuild.specs.Forms.{most_records, Few, Limits, count_of, surplus_of, skip, reading, standing, bits_of, row, balanced, chosen, block_of, listed}
+use Rattle.rebuild.specs.Laws.Small.{Within, Fits, Small, Smalls, smalls_replicate, products_small, choices_small, bits_small, blocks_small, lists_small, tree_small, treev_small}
 
 module _ (sh : List ℕ) (d : ℕ) (s : List ℕ) where
   reading_small : (v : Bool) (p : ℕ) → Small sh (suc d) (reading (reader sh) d v s p)
@@ -25,15 +25,10 @@ module _ (sh : List ℕ) (d : ℕ) (s : List ℕ) where
   unfolding standing
   standing_small p = reading_small (is_variant (rec_at s p)) p
 
-  part_small : (k : Parts) (p : ℕ) → Small sh (suc d) (part (reader sh) k d s p)
-  part_small Bits p = bits_small sh (suc d)
-  part_small Copies p = standing_small p
-  part_small Types p = standing_small p
-
   row_small : (k : Parts) (E : List ℕ) (n p : ℕ) → Smalls sh (suc d) (row (reader sh) k d s E n p)
   unfolding row
   row_small k E zero p = tt
-  row_small k E (suc n) p = (part_small k p, row_small k E n (skip k E 1 p))
+  row_small k E (suc n) p = (standing_small p, row_small k E n (skip k E 1 p))
 
 few_within : (z d p e n k : ℕ) → z ≤ 65536 → d ≤ 32 → Within z (suc d) p e n k → Few n k
 few_within z d p e n k h l w =
@@ -67,6 +62,10 @@ surplus_in None = 0
 abbrev pub some_in : Option (ℕ × ℕ) → ℕ
 some_in (Some (n, k)) = 1
 some_in None = 0
+
+pub few_bits : (sh : List ℕ) (n p : ℕ) (x : Option Read) → length sh ≤ 65536 → x ≡ bits_of (reader sh) n p → Few (count_of x) (surplus_of x)
+unfolding bits_of
+few_bits sh n p x l e = few_read sh 0 p x (record { short = l; low = omega arith }) _ (products_small sh 1 n _ (smalls_replicate sh 1 n (bits_small sh 1))) e
 
 module _ (sh : List ℕ) (d : ℕ) (s : List ℕ) (p : ℕ) (x : Option Read) (l : Limits sh d) where
   pub few_product : (k : Parts) (E : List ℕ) (n q : ℕ) → x ≡ balanced (reader sh) k d s E n q p → Few (count_of x) (surplus_of x)

@@ -1,8 +1,9 @@
 -- Laws of what is read at a record: it is what the record's form says of what stands below it (`formed`).
-use Rattle.std.specs.Prelude.{◌≡◌, Bool, get_or, take, drop, replicate}
+use Rattle.std.specs.Prelude.{◌≡◌, Bool, get_or, take, drop, replicate, Result, Ok}
 use Rattle.std.proofs.Math.Path.{refl, ap, ap₂}
-use Rattle.std.proofs.Common.{sym, subst, ◌∙◌, ◌⊎◌, inl, inr, zero-add, suc-add}
+use Rattle.std.proofs.Common.{sym, subst, ◌∙◌, zero-add, suc-add}
 use Rattle.std.proofs.Math.Bool.{true, false}
+use Rattle.std.proofs.lemmas.List.{take-replicate, drop-replicate}
 use mathlib.Core.List.{List, [], ◌∷◌}
 use Prim.Native.Nat.{ℕ, zero, suc, ◌+◌, ◌-◌, ◌≤◌}
 use native.Mathlib.Omega.{arith}
@@ -13,27 +14,29 @@ use Rattle.model.specs.Balanced as powers
 use Rattle.model.proofs.Laws.Balanced.{split_bounds, Shares}
 use Rattle.model.proofs.Laws.Sizes.{fold_step}
 use Rattle.model.specs.Types.{size}
-use Rattle.model.specs.Types as model
 use Rattle.types.specs.declared.Head.{Head}
 use Rattle.types.specs.declared.Head.TheVariants.{Missing, Faulty, Never, Boolean, UInt, Either, Opt, Tuple, Array, Listed, Variants, Payload}
-use Rattle.types.specs.declared.Rec.TheVariants.{Variant}
+use Rattle.types.specs.declared.Rec.{Rec}
+use Rattle.types.specs.declared.Rec.TheVariants.{Gone, Wrong, Variant}
 use Rattle.types.specs.Record.{head_at, calls_for, rec_at}
-use Rattle.types.specs.Heads.{Fair, FairBound}
-use Rattle.types.specs.Walks.{walk}
+use Rattle.types.specs.Heads.{Fair, width_range}
+use Rattle.types.specs.Walks.{opens, walk}
+use Rattle.reply.specs.declared.Refusal.{Refusal}
+use Rattle.types.specs.Unique.{bad_end}
 use Rattle.types.specs.Trees.{kids, node, payload, tree, treev}
 use Rattle.types.specs.Trees as trees
 use Rattle.types.specs.Steps.{Given, GivenRow, given_levels, given_head, given_end, given_inside, tree_in, treev_in, size_kids, count_cases}
-use Rattle.rebuild.specs.declared.Form.{Form}
-use Rattle.rebuild.specs.declared.Form.TheVariants as form
-use Rattle.rebuild.specs.declared.Parts.{Parts}
-use Rattle.rebuild.specs.declared.Parts.TheVariants.{Bits, Copies, Types}
+use Rattle.types.specs.declared.forms.Form.{Form}
+use Rattle.types.specs.declared.forms.Form.TheVariants as form
+use Rattle.types.specs.declared.forms.Parts.{Parts}
+use Rattle.types.specs.declared.forms.Parts.TheVariants.{Copies, Types}
+use Rattle.types.specs.Forms.{form_of}
 use Rattle.rebuild.specs.Kinds.{Readers, products, choices, bits, blocks, lists, reads, readers, cases}
 use Rattle.structural.specs.Forms.{most_parts, is_variant, Stands}
 use Rattle.told.specs.Forms.{hops}
 use Rattle.told.specs.Laws.Hops.{hops_add}
 use Rattle.told.specs.Laws.Rows.{first, rest, hopped}
-use Rattle.rebuild.specs.Forms.{form_of, skip, Hopped, GivenPart, GivenParts, reading, standing, part, row, balanced, chosen, block_of, listed}
-use Rattle.structural.proofs.Laws.Bounds.{width_small}
+use Rattle.rebuild.specs.Forms.{skip, Hopped, GivenParts, reading, standing, bits_of, row, balanced, chosen, block_of, listed}
 use Rattle.structural.proofs.Laws.Forms.{is_kind, stands}
 
 -- WHAT STANDS AT A RECORD
@@ -43,27 +46,36 @@ module _ {d : ℕ} {v : Bool} {s E : List ℕ} {p : ℕ} (g : Given d v s E p) w
   unfolding standing
   standing_is W = ap (λ b. reading W d b s p) (is_kind g)
 
+-- a record that is refused is none of an accepted file
+none_refused : {d : ℕ} {s E : List ℕ} {p : ℕ} → Stands d s E p → (r : Rec) → r ≡ rec_at s p → ((v : Bool) (k : Bool → ℕ → Result ℕ Refusal) (e : ℕ) → opens v r k ≡ Ok e → ⊥) → ⊥
+unfolding walk
+none_refused {d} {s} {E} {p} g r i f = go d (is_variant (rec_at s p)) g.given.starts.end g.given.starts.walks
+  where
+    no : (v : Bool) (k : Bool → ℕ → Result ℕ Refusal) (e : ℕ) → opens v (rec_at s p) k ≡ Ok e → ⊥
+    no v k e w = f v k e (ap (λ r. opens v r k) i ∙ w)
+
+    go : (d : ℕ) (v : Bool) (e : ℕ) → walk d v s p ≡ Ok e → ⊥
+    go zero v e w = no v _ e w
+    go (suc d) v e w = no v _ e w
+
 -- PARTS IN A ROW
 
 skip_add : (k : Parts) (E : List ℕ) (m n p : ℕ) → skip k E (m + n) p ≡ skip k E n (skip k E m p)
-skip_add Bits E m n p = refl
 skip_add Copies E m n p = refl
 skip_add Types E m n p = hops_add E m n p
 
 skip_none : (k : Parts) (E : List ℕ) (p : ℕ) → skip k E 0 p ≡ p
 unfolding hops
-skip_none Bits E p = refl
 skip_none Copies E p = refl
 skip_none Types E p = refl
 
 skip_suc : (k : Parts) (E : List ℕ) (n p : ℕ) → skip k E n (skip k E 1 p) ≡ skip k E (suc n) p
 unfolding hops
-skip_suc Bits E n p = refl
 skip_suc Copies E n p = refl
 skip_suc Types E n p = refl
 
 module _ {k : Parts} {d : ℕ} {s E : List ℕ} {n p : ℕ} (g : GivenParts k d s E n p) where
-  pub given_one : 1 ≤ n → GivenPart k d s E p
+  pub given_one : 1 ≤ n → Stands d s E p
   given_one h = rw (skip_none k E p) at (g.each 0 h)
 
   pub given_left : (m : ℕ) → m ≤ n → GivenParts k d s E m p
@@ -76,22 +88,10 @@ pub given_copies : {d : ℕ} {s E : List ℕ} {p : ℕ} (n : ℕ) → Stands d s
 given_copies n g = record { each = λ i l. g }
 
 pub given_hopped : (k : Parts) {d : ℕ} {s E : List ℕ} {n p : ℕ} → GivenParts k d s E n p → Hopped k E n p
-given_hopped Bits g = tt
 given_hopped Copies g = tt
 given_hopped Types g = record { each = λ i l. given_inside (g.each i l).given }
 
-module _ (k : Parts) (d : ℕ) (s E : List ℕ) (q : ℕ) where
-  pub copies_given : GivenPart k d s E q → k ≡ Copies → Stands d s E q
-  copies_given g e = rw e at g
-
-  pub types_given : GivenPart k d s E q → k ≡ Types → Stands d s E q
-  types_given g e = rw e at g
-
-  pub below_given : GivenPart k d s E q → (k ≡ Copies) ⊎ (k ≡ Types) → Stands d s E q
-  below_given g (inl e) = copies_given g e
-  below_given g (inr e) = types_given g e
-
-pub one_given : {k : Parts} {d : ℕ} {s E : List ℕ} {n p : ℕ} → GivenParts k d s E n p → n ≡ 1 → GivenPart k d s E p
+pub one_given : {k : Parts} {d : ℕ} {s E : List ℕ} {n p : ℕ} → GivenParts k d s E n p → n ≡ 1 → Stands d s E p
 one_given g z = given_one g (omega arith)
 
 module _ {n few : ℕ} (h : Shares n few) {k : Parts} {d : ℕ} {s E : List ℕ} {p : ℕ} (g : GivenParts k d s E n p) where
@@ -105,7 +105,7 @@ module _ {A : Type 0} (W : Readers A) (k : Parts) (d : ℕ) (s E : List ℕ) whe
   take_row : (m n p : ℕ) → take m (row W k d s E (m + n) p) ≡ row W k d s E m p
   unfolding row
   take_row zero n p = refl
-  take_row (suc m) n p = rw (suc-add m n) (ap {B = List A} (λ l. part W k d s p ∷ l) (take_row m n (skip k E 1 p)))
+  take_row (suc m) n p = rw (suc-add m n) (ap {B = List A} (λ l. standing W d s p ∷ l) (take_row m n (skip k E 1 p)))
 
   drop_row : (m n p : ℕ) → drop m (row W k d s E (m + n) p) ≡ row W k d s E n (skip k E m p)
   unfolding row
@@ -124,13 +124,28 @@ module _ {A : Type 0} (W : Readers A) (k : Parts) (d : ℕ) (s E : List ℕ) whe
   unfolding balanced row products fold btree grow
   balanced_none n p e = ap (λ i. balanced W k d s E i p) e
 
-  pub balanced_one : (n p : ℕ) → n ≡ 1 → balanced W k d s E n p ≡ part W k d s p
+  pub balanced_one : (n p : ℕ) → n ≡ 1 → balanced W k d s E n p ≡ standing W d s p
   unfolding balanced row products fold btree grow
   balanced_one n p e = ap (λ i. balanced W k d s E i p) e
 
   pub balanced_step : (n few p : ℕ) → few ≡ btree_split_index n → 2 ≤ n → balanced W k d s E n p ≡ W.pairs (balanced W k d s E few p) (balanced W k d s E (n - few) (skip k E few p))
   unfolding balanced products
   balanced_step n few p e h = rw e (fold_row W.pairs W.passes n p h)
+
+-- BITS IN A ROW
+
+module _ {A : Type 0} (W : Readers A) where
+  pub bits_one : (n : ℕ) → n ≡ 1 → bits_of W n ≡ bits W
+  unfolding bits_of products fold btree grow
+  bits_one n e = ap (bits_of W) e
+
+  pub bits_step : (n few : ℕ) → few ≡ btree_split_index n → 2 ≤ n → bits_of W n ≡ W.pairs (bits_of W few) (bits_of W (n - few))
+  unfolding bits_of products
+  bits_step n few e h =
+      let b = split_bounds n h in
+      rw e (fold_step W.pairs W.passes n h (replicate n (bits W)) ∙ ap₂ (λ x y. W.pairs (fold W.pairs W.passes (btree (btree_split_index n)) x) (fold W.pairs W.passes (btree (n - btree_split_index n)) y)) (take-replicate (btree_split_index n) n (bits W) (omega arith)) (drop-replicate (btree_split_index n) n (bits W)))
+
+-- ROWS
 
 module _ {A : Type 0} (W : Readers A) (d : ℕ) (s E : List ℕ) where
   pub chosen_one : (n p : ℕ) → n ≡ 1 → chosen W d s E n p ≡ standing W d s p
@@ -145,11 +160,6 @@ module _ {A : Type 0} (W : Readers A) (d : ℕ) (s E : List ℕ) where
   unfolding row
   copies_row zero p = refl
   copies_row (suc n) p = ap {B = List A} (λ l. standing W d s p ∷ l) (copies_row n p)
-
-  bits_row : (n p : ℕ) → row W Bits d s E n p ≡ replicate n (bits W)
-  unfolding row
-  bits_row zero p = refl
-  bits_row (suc n) p = ap {B = List A} (λ l. bits W ∷ l) (bits_row n p)
 
   pub block_sum : (n p : ℕ) → block_of W d s n p ≡ W.sums W.units (balanced W Copies d s E n p)
   unfolding block_of blocks balanced
@@ -173,6 +183,11 @@ module _ {A : Type 0} (W : Readers A) (d : ℕ) (s E : List ℕ) where
 
 -- THE KINDS OF TYPES
 
+pub record IntegerOf {A : Type 0} (W : Readers A) (w : ℕ) (t : A) : Type 0 where
+  pub some : 1 ≤ w
+  pub few : w ≤ 256
+  pub same : t ≡ W.one (bits_of W w)
+
 pub record ProductOf {A : Type 0} (W : Readers A) (k : Parts) (n d : ℕ) (s E : List ℕ) (p : ℕ) (t : A) : Type 0 where
   pub few : n ≤ most_parts
   pub given : GivenParts k d s E n p
@@ -185,7 +200,6 @@ pub record SumOf {A : Type 0} (W : Readers A) (n d : ℕ) (s E : List ℕ) (p : 
   pub same : t ≡ W.one (chosen W d s E n p)
 
 pub record ListOf {A : Type 0} (W : Readers A) (b : NonZeroPow2Usize) (d : ℕ) (s E : List ℕ) (p : ℕ) (t : A) : Type 0 where
-  pub fair : FairBound b
   pub given : Stands d s E p
   pub same : t ≡ W.one (listed W d s b p)
 
@@ -195,31 +209,15 @@ pub record PayloadOf {A : Type 0} (W : Readers A) (n d : ℕ) (s E : List ℕ) (
   pub same : t ≡ balanced W Types d s E n p
 
 abbrev pub Formed : {A : Type 0} → Readers A → Form → ℕ → List ℕ → List ℕ → ℕ → A → Type 0
-Formed W form.Refused d s E p t = t ≡ W.fails
+Formed W form.Nothing d s E p t = t ≡ W.fails
+Formed W form.Bit d s E p t = t ≡ W.one (bits W)
+Formed W (form.Integer w) d s E p t = IntegerOf W w t
 Formed W (form.Product k n) d s E p t = ProductOf W k n d s E p t
 Formed W (form.Sum n) d s E p t = SumOf W n d s E p t
 Formed W (form.List b) d s E p t = ListOf W b d s E p t
 Formed W (form.Payload n) d s E p t = PayloadOf W n d s E p t
 
-module _ {A : Type 0} (W : Readers A) (d : ℕ) (s E : List ℕ) (p : ℕ) where
-  no_parts : GivenParts Types d s E 0 p
-  no_parts = record { each = λ i l. absurd (omega arith) }
-
-  empty_is : reads W (model.tuple model.nil) ≡ W.one (balanced W Types d s E 0 p)
-  unfolding reads balanced row
-  empty_is = refl
-
-  empty : ProductOf W Types 0 d s E p (reads W (model.tuple model.nil))
-  empty = record { few = omega arith; given = no_parts; same = empty_is }
-
-  bits_of : (n : ℕ) → n ≤ most_parts → ProductOf W Bits n d s E p (W.one (products W n (replicate n (bits W))))
-  unfolding balanced
-  bits_of n h = record { few = h; given = record { each = λ i l. tt }; same = ap (λ l. W.one (products W n l)) (sym (bits_row W d s E n p)) }
-
-  bool_is : reads W model.bool ≡ W.one (products W 1 (replicate 1 (bits W)))
-  unfolding reads products fold btree grow
-  bool_is = refl
-
+module _ {A : Type 0} (W : Readers A) where
   either_is : (a b : A) → W.one (W.sums a b) ≡ W.one (choices W 2 (a ∷ b ∷ []))
   unfolding choices fold btree grow btree_split_index next_power_of_two powers.next
   either_is a b = refl
@@ -260,28 +258,28 @@ module _ {A : Type 0} (W : Readers A) {d : ℕ} {s E : List ℕ} {p : ℕ} (g : 
   unfolding node reads chosen kids
   either_same e =
       type_is Either e refl
-      ∙ either_is W (d - 1) s E (p + 1) _ _
+      ∙ either_is W _ _
       ∙ ap (λ l. W.one (choices W 2 l)) (sym (row_kids W (d - 1) s E 2 (p + 1) (given_head Either g.given e refl)))
 
   -- what stands at a record is what its form says of what stands below it
   pub formed : (h : Head) → h ≡ head_at s p → Fair h → Formed W (form_of h) (d - 1) s E (p + 1) (standing W d s p)
-  unfolding node reads reading listed balanced
-  formed Missing e f = rw (type_is Missing e refl) (empty W (d - 1) s E (p + 1))
-  formed Faulty e f = rw (type_is Faulty e refl) (empty W (d - 1) s E (p + 1))
+  unfolding node reads reading listed balanced bits_of opens rec_at
+  formed Missing e f = absurd (none_refused g Gone (ap calls_for e) (λ v k m. bad_end))
+  formed Faulty e f = absurd (none_refused g Wrong (ap calls_for e) (λ v k m. bad_end))
   formed Never e f = type_is Never e refl
-  formed Boolean e f = rw (type_is Boolean e refl ∙ bool_is W (d - 1) s E (p + 1)) (bits_of W (d - 1) s E (p + 1) 1 (omega arith))
-  formed (UInt w) e f = rw (type_is (UInt w) e refl) (bits_of W (d - 1) s E (p + 1) w.0 (width_small w f))
+  formed Boolean e f = type_is Boolean e refl
+  formed (UInt w) e f = let (l, m) = width_range w in record { some = l; few = m; same = type_is (UInt w) e refl }
   formed Either e f = record { some = omega arith; few = omega arith; given = row_given (given_head Either g.given e refl); same = either_same e }
   formed Opt e f =
       let b = first (given_head Opt g.given e refl) in
-      record { fair = record { exponent = 0; admitted = refl }; given = stands b; same = type_is Opt e refl ∙ option_is W (d - 1) s E (p + 1) _ ∙ ap (λ r. W.one (lists W (bound_log2 2 - 1) r)) (sym (standing_is b W)) }
+      record { given = stands b; same = type_is Opt e refl ∙ option_is W _ ∙ ap (λ r. W.one (lists W (bound_log2 2 - 1) r)) (sym (standing_is b W)) }
   formed (Tuple n) e f = record { few = omega arith; given = row_given (given_head (Tuple n) g.given e refl); same = tuple_same n e }
   formed (Array n) e f =
       let b = first (given_head (Array n) g.given e refl) in
       record { few = omega arith; given = given_copies n (stands b); same = type_is (Array n) e refl ∙ ap (λ r. W.one (products W n (replicate n r))) (sym (standing_is b W)) ∙ ap (λ l. W.one (products W n l)) (sym (copies_row W (d - 1) s E n (p + 1))) }
   formed (Listed b) e f =
       let c = first (given_head (Listed b) g.given e refl) in
-      record { fair = f; given = stands c; same = type_is (Listed b) e refl ∙ ap (λ r. W.one (lists W (bound_log2 b.0 - 1) r)) (sym (standing_is c W)) }
+      record { given = stands c; same = type_is (Listed b) e refl ∙ ap (λ r. W.one (lists W (bound_log2 b.value - 1) r)) (sym (standing_is c W)) }
   formed (Variants n) e f = record { some = f.0; few = omega arith; given = row_given (given_head (Variants n) g.given e refl); same = enum_same n f.0 e }
   formed (Payload n) e f = record { few = omega arith; given = row_given (given_head (Payload n) g.given e refl); same = payload_is n e ∙ ap (λ l. products W n l) (sym (row_kids W (d - 1) s E n (p + 1) (given_head (Payload n) g.given e refl))) }
 
@@ -290,6 +288,12 @@ module _ {d : ℕ} {s E : List ℕ} {p : ℕ} (g : Stands d s E p) where
   module _ {A : Type 0} (W : Readers A) (h : Head) (f : Form) (e : h ≡ head_at s p) (i : Fair h) (j : f ≡ form_of h) where
     pub as_formed : (x : Form) → f ≡ x → Formed W x (d - 1) s E (p + 1) (standing W d s p)
     as_formed x k = subst (λ y. Formed W y (d - 1) s E (p + 1) (standing W d s p)) (sym j ∙ k) (formed W g h e i)
+
+    pub as_bit : f ≡ form.Bit → standing W d s p ≡ W.one (bits W)
+    as_bit = as_formed form.Bit
+
+    pub as_integer : (w : ℕ) → f ≡ form.Integer w → IntegerOf W w (standing W d s p)
+    as_integer w = as_formed (form.Integer w)
 
     pub as_product : (k : Parts) (n : ℕ) → f ≡ form.Product k n → ProductOf W k n (d - 1) s E (p + 1) (standing W d s p)
     as_product k n = as_formed (form.Product k n)

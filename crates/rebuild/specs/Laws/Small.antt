@@ -146,7 +146,7 @@ module _ (s : List ℕ) (L : ℕ) where
   smalls_drop (suc n) [] h = tt
   smalls_drop (suc n) (r ∷ rs) h = smalls_drop n rs h.1
 
-  smalls_replicate : (n : ℕ) {r : Reader} → Small s L r → Smalls (replicate n r)
+  pub smalls_replicate : (n : ℕ) {r : Reader} → Small s L r → Smalls (replicate n r)
   smalls_replicate zero h = tt
   smalls_replicate (suc n) h = (h, smalls_replicate n h)
 
@@ -207,7 +207,7 @@ module _ (s ty : List ℕ) where
   node_small L Faulty g f h k p a b = one_small s L (products_small s L 0 [] tt)
   node_small L Never g f h k p a b = fails_small s (suc L)
   node_small L Boolean g f h k p a b = one_small s L (bits_small s L)
-  node_small L (UInt w) g f h k p a b = one_small s L (products_small s L w.0 _ (smalls_replicate s L w.0 (bits_small s L)))
+  node_small L (UInt w) g f h k p a b = one_small s L (products_small s L w.value _ (smalls_replicate s L w.value (bits_small s L)))
   node_small L Either g f h k p a b = one_small s L (sums_small s L (a p) (a (end_of (f p))))
   node_small L Opt g f h k p a b = one_small s L (sums_small s L (units_small s L) (a p))
   node_small L (Tuple n) g f h k p a b = one_small s L (products_small s L _ _ (kids_small L g f a n p))

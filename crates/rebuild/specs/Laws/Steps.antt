@@ -5,8 +5,8 @@ use Rattle.std.proofs.Common.{◌∙◌, arith, Fits}
 use Rattle.std.specs.Int.{w64}
 use Rattle.array.specs.Ends.{tree_end_of}
 use Rattle.array.specs.Laws.{tree_end_at}
-use Rattle.rebuild.specs.declared.Parts.{Parts}
-use Rattle.rebuild.specs.declared.Parts.TheVariants.{Bits, Copies, Types}
+use Rattle.types.specs.declared.forms.Parts.{Parts}
+use Rattle.types.specs.declared.forms.Parts.TheVariants.{Copies, Types}
 use Rattle.rebuild.specs.declared.Read.{Read}
 use Rattle.rebuild.specs.Places.{closed, side, both, passed, units, sums, pairs, passes}
 use Rattle.rebuild.specs.Reads.{Reader, read_to, plus, next, counts}
@@ -115,9 +115,6 @@ module _ (s : List ℕ) (p : ℕ) where
 module _ (k : Parts) (E : List ℕ) (n p : ℕ) where
   pub types_hopped : Hopped k E n p → k ≡ Types → Hops E n p
   types_hopped h e = rw e at h
-
-  pub skip_bits : k ≡ Bits → p ≡ skip k E n p
-  skip_bits e = rw e refl
 
   pub skip_copies : k ≡ Copies → p ≡ skip k E n p
   skip_copies e = rw e refl

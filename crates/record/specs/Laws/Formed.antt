@@ -20,7 +20,7 @@ use Rattle.types.specs.declared.Head.TheVariants as head
 use Rattle.types.specs.declared.Rec.TheVariants.{Gone, Wrong, Variant}
 use Rattle.types.specs.declared.Rec as types
 use Rattle.types.specs.Record.{head_at, calls_for, rec_at}
-use Rattle.types.specs.Heads.{Fair, FairBound, width_range}
+use Rattle.types.specs.Heads.{Fair, width_range}
 use Rattle.types.specs.Walks.{opens, walk}
 use Rattle.types.specs.Trees.{kids, node, payload, tree, treev}
 use Rattle.types.specs.Unique.{bad_end}
@@ -28,14 +28,14 @@ use Rattle.types.specs.Steps.{given_levels, given_head, tree_in, treev_in}
 use Rattle.structural.specs.Forms.{is_variant, Stands}
 use Rattle.structural.proofs.Laws.Forms.{stands}
 use Rattle.structural.proofs.Laws.Bounds.{bound_small}
-use Rattle.told.specs.declared.Parts.{Parts}
-use Rattle.told.specs.declared.Parts.TheVariants.{Types}
+use Rattle.types.specs.declared.forms.Parts.{Parts}
+use Rattle.types.specs.declared.forms.Parts.TheVariants.{Types}
 use Rattle.told.specs.Forms.{GivenParts}
 use Rattle.told.specs.Laws.Rows.{first, given_types, given_copies}
 use Rattle.record.specs.Marks.{mark_of, Marks}
-use Rattle.record.specs.declared.Form.{Form}
-use Rattle.record.specs.declared.Form.TheVariants as form
-use Rattle.record.specs.Forms.{form_of}
+use Rattle.types.specs.declared.forms.Form.{Form}
+use Rattle.types.specs.declared.forms.Form.TheVariants as form
+use Rattle.types.specs.Forms.{form_of}
 use Rattle.record.specs.Trees.{value_in, part, product, sum, elements, bit_row}
 use Rattle.record.specs.Laws.Products.{records_of, payload_of, payload_product, tuple_product, array_product, list_elements, option_elements}
 use Rattle.record.specs.Laws.Sums.{enum_sum, either_sum}
@@ -72,9 +72,8 @@ pub record SumRead (h : Head) (n d : ℕ) (s E : List ℕ) (p : ℕ) : Type 0 wh
 
 -- a list: its record, which says how many elements, and these behind it
 pub record ListRead (h : Head) (b : NonZeroPow2Usize) (d : ℕ) (s E : List ℕ) (p : ℕ) : Type 0 where
-  pub fair : FairBound b
   pub given : Stands (d - 1) s E (p + 1)
-  pub marks : (i : ℕ) → i < b.0 → Marks h i
+  pub marks : (i : ℕ) → i < b.value → Marks h i
   pub same : (x : SValue) → part d s p x ≡ map_o (λ y. mark_of h y.0 ∷ y.1) (elements (d - 1) s b (p + 1) x)
 
 -- a Variant's payload: n parts, and no record of its own
@@ -125,7 +124,7 @@ formed Missing d s E p g e f = absurd (nothing_given d s E p g Gone NotOneType (
 formed Faulty d s E p g e f = absurd (nothing_given d s E p g Wrong BadRecord (ap calls_for e) (λ v k. refl))
 formed Never d s E p g e f = record { same = type_is d s E p g Never e refl }
 formed Boolean d s E p g e f = record { same = λ x. type_is d s E p g Boolean e refl x ∙ bool_bit x }
-formed (UInt w) d s E p g e f = let (l, m) = width_range w f in record { some_bits = l; few = m; same = λ x. type_is d s E p g (UInt w) e refl x ∙ integer_bits w.0 x }
+formed (UInt w) d s E p g e f = let (l, m) = width_range w in record { some_bits = l; few = m; same = λ x. type_is d s E p g (UInt w) e refl x ∙ integer_bits w.value x }
 formed Either d s E p g e f =
     let r = given_head Either g.given e refl in
     record {
@@ -138,7 +137,6 @@ formed Either d s E p g e f =
 formed Opt d s E p g e f =
     let r = first (given_head Opt g.given e refl) in
     record {
-      fair = record { exponent = 0; admitted = refl };
       given = stands r;
       marks = λ i l. omega arith;
       same = λ x. type_is d s E p g Opt e refl x ∙ option_elements (d - 1) s E (p + 1) x r;
@@ -151,9 +149,8 @@ formed (Array n) d s E p g e f =
     record { few = omega arith; given = given_copies n (stands r); marks = tt; same = λ x. type_is d s E p g (Array n) e refl x ∙ array_product (d - 1) s E n (p + 1) x r }
 formed (Listed b) d s E p g e f =
     let r = first (given_head (Listed b) g.given e refl) in
-    let m = bound_small f in
+    let m = bound_small b in
     record {
-      fair = f;
       given = stands r;
       marks = λ i l. omega arith;
       same = λ x. type_is d s E p g (Listed b) e refl x ∙ list_elements (d - 1) s E b (p + 1) x r;

@@ -7,7 +7,7 @@ use mathlib.Core.List.{List, [], ◌∷◌, ◌++◌, append-nil}
 use Rattle.std.proofs.Math.Option.{Option, none, some}
 use Prim.Native.Nat.{ℕ, zero, suc, ◌-◌}
 use Rattle.num.specs.declared.NonZeroPow2Usize.{NonZeroPow2Usize}
-use Rattle.num.specs.Powers.{bound, bound_log2}
+use Rattle.num.specs.Powers.{bound_two, bound_log2}
 use Rattle.model.specs.Options.{map_o, bind_o, map_m, flat_map}
 use Rattle.model.specs.Balanced.{btree, grow}
 use Rattle.model.specs.Structural.{SValue}
@@ -21,7 +21,7 @@ use Rattle.types.specs.Walks.{walk}
 use Rattle.types.specs.Trees.{end_of, kids, tree}
 use Rattle.types.specs.Steps.{Given, GivenRow, given_end, size_kids}
 use Rattle.structural.proofs.Laws.Forms.{is_kind, ending_is}
-use Rattle.told.specs.declared.Parts.TheVariants.{Copies, Types}
+use Rattle.types.specs.declared.forms.Parts.TheVariants.{Copies, Types}
 use Rattle.told.specs.Forms.{after}
 use Rattle.told.specs.Laws.Rows.{first, rest}
 use Rattle.record.specs.Trees.{value_in, part, row, product, numbered, elements}
@@ -91,11 +91,11 @@ module _ (d : ℕ) (s E : List ℕ) where
 
   -- LISTS
 
-  pub list_elements : (b : NonZeroPow2Usize) (p : ℕ) (x : SValue) → Given d false s E p → records_of (list (tree d s p) (bound_log2 b.0 - 1)) x ≡ map_o (λ y. rec 7 0 y.0 0 ∷ y.1) (elements d s b p x)
+  pub list_elements : (b : NonZeroPow2Usize) (p : ℕ) (x : SValue) → Given d false s E p → records_of (list (tree d s p) (bound_log2 b.value - 1)) x ≡ map_o (λ y. rec 7 0 y.0 0 ∷ y.1) (elements d s b p x)
   unfolding encode reconstruct elements
   list_elements b p x g =
       let t = tree d s p in
-      let e = bound_log2 b.0 - 1 in
+      let e = bound_log2 b.value - 1 in
       map_o_bind_o (map_m (λ x. reconstruct t x)) (encode (list t e)) (combine e x)
       ∙ bind_o_known (combine e x) _ _ (λ xs f.
       map_o_known (map_m (λ x. reconstruct t x) xs) (encode (list t e)) (λ vs. rec 7 0 (length xs) 0 ∷ flat_map (λ x. encode t x) vs) (λ vs f. ap (λ m. rec 7 0 m 0 ∷ flat_map (λ x. encode t x) vs) (length_map_m (λ x. reconstruct t x) xs vs f))
@@ -105,7 +105,7 @@ module _ (d : ℕ) (s E : List ℕ) where
       ∙ sym (map_o_bind_o (λ xs. numbered (length xs) (row Copies d s (length xs) p xs)) (λ (y : ℕ × List Rec). rec 7 0 y.0 0 ∷ y.1) (combine e x))
 
   -- an Option is a list of none or one
-  pub option_elements : (p : ℕ) (x : SValue) → Given d false s E p → records_of (option (tree d s p)) x ≡ map_o (λ y. rec 4 y.0 0 0 ∷ y.1) (elements d s (bound 2) p x)
+  pub option_elements : (p : ℕ) (x : SValue) → Given d false s E p → records_of (option (tree d s p)) x ≡ map_o (λ y. rec 4 y.0 0 0 ∷ y.1) (elements d s bound_two p x)
   unfolding encode reconstruct elements bound_log2 combine row after unfold_tree btree grow value_in
   option_elements p x g = go (as_option x)
     where

@@ -19,12 +19,12 @@ use Rattle.model.specs.ValueFiles.{Rec, rec, encode, encode_choice}
 use Rattle.model.proofs.Laws.Balanced.{btree_leaves}
 use Rattle.model.proofs.Laws.Options.{bind_o_some, map_o_some, map_o_map_o, map_o_bind_o, map_o_known, bind_o_known}
 use Rattle.model.proofs.Laws.Valid.{leaf_below, length_combine, choose_index}
-use Rattle.types.specs.Heads.{FairBound}
+use Rattle.types.specs.Heads.{fair_bound_of}
 use Rattle.types.specs.Walks.{walk}
 use Rattle.types.specs.Trees.{end_of, cases, tree, treev}
 use Rattle.types.specs.Steps.{GivenRow, given_end, count_cases}
 use Rattle.structural.proofs.Laws.Bounds.{power_of}
-use Rattle.told.specs.declared.Parts.TheVariants.{Copies}
+use Rattle.types.specs.declared.forms.Parts.TheVariants.{Copies}
 use Rattle.told.specs.Forms.{hops}
 use Rattle.told.specs.Laws.Rows.{first, rest}
 use Rattle.record.specs.Trees.{value_in, part, row, numbered, sum, elements}
@@ -112,15 +112,16 @@ sum_below d s E n p x y h e =
     omega (arith, choice_below n x z h f, ap (λ (w : ℕ × List Rec). w.0) j)
 
 -- a list has fewer elements than its bound
-few_elements : (b : NonZeroPow2Usize) (x : SValue) (xs : List SValue) → FairBound b → combine (bound_log2 b.0 - 1) x ≡ some xs → length xs < b.0
-few_elements b x xs f e =
-    let w = power_of f in
-    let u : suc (bound_log2 b.0 - 1) ≡ suc f.exponent = omega (arith, w.log2) in
-    rw (w.power, ← u) (length_combine (bound_log2 b.0 - 1) x xs e)
+few_elements : (b : NonZeroPow2Usize) (x : SValue) (xs : List SValue) → combine (bound_log2 b.value - 1) x ≡ some xs → length xs < b.value
+few_elements b x xs e =
+    let f = fair_bound_of b in
+    let w = power_of b in
+    let u : suc (bound_log2 b.value - 1) ≡ suc f.exponent = omega (arith, w.log2) in
+    rw (w.power, ← u) (length_combine (bound_log2 b.value - 1) x xs e)
 
-pub elements_below : (d : ℕ) (s : List ℕ) (b : NonZeroPow2Usize) (p : ℕ) (x : SValue) (y : ℕ × List Rec) → FairBound b → elements d s b p x ≡ some y → y.0 < b.0
+pub elements_below : (d : ℕ) (s : List ℕ) (b : NonZeroPow2Usize) (p : ℕ) (x : SValue) (y : ℕ × List Rec) → elements d s b p x ≡ some y → y.0 < b.value
 unfolding elements
-elements_below d s b p x y f e =
-    let (xs, g, k) = bind_o_some (combine (bound_log2 b.0 - 1) x) _ y e in
+elements_below d s b p x y e =
+    let (xs, g, k) = bind_o_some (combine (bound_log2 b.value - 1) x) _ y e in
     let (rs, i, j) = map_o_some _ (row Copies d s (length xs) p xs) y k in
-    omega (arith, few_elements b x xs f g, ap (λ (z : ℕ × List Rec). z.0) j)
+    omega (arith, few_elements b x xs g, ap (λ (z : ℕ × List Rec). z.0) j)

@@ -3,58 +3,27 @@ use Rattle.std.proofs.Math.Path.{◌≡◌, refl, sym, ap}
 use Rattle.std.proofs.Common.{◌∙◌, length-append}
 use mathlib.Core.List.{List, [], ◌++◌}
 use Rattle.std.proofs.Math.Option.{Option, some, none-ne-some, some-injective}
-use Prim.Native.Nat.{ℕ, zero, suc, ◌+◌, ◌-◌, ◌^◌, ◌<◌}
-use Rattle.std.proofs.Math.Nat.{two-pow-succ, one-le-pow}
+use Prim.Native.Nat.{ℕ, suc, ◌+◌, ◌-◌, ◌^◌, ◌<◌}
 use native.Mathlib.Omega.{arith}
 use Rattle.std.proofs.Math.ListN.{length}
 use Rattle.std.specs.Prelude.{get_or, Some, None}
 use Rattle.num.specs.declared.NonZeroPow2Usize.{NonZeroPow2Usize}
-use Rattle.num.specs.Powers.{bound, bound_log2, half_bound}
-use Rattle.num.specs.Laws.{bounded, bound_power, half_bound_two, half_bound_more}
+use Rattle.num.specs.Powers.{bound_log2, half_bound}
+use Rattle.num.specs.Laws.{no_half, HalfOf, half_of}
 use Rattle.model.specs.Options.{map_o, bind_o}
 use Rattle.model.specs.Structural.{SValue, unit, left, right, pair}
 use Rattle.model.specs.ValueFiles.{Rec}
 use Rattle.model.specs.Reconstruct.{as_tuple, as_block, combine}
 use Rattle.model.proofs.Laws.Options.{bind_o_some, map_o_some}
 use Rattle.model.proofs.Laws.Valid.{length_as_tuple}
-use Rattle.types.specs.Heads.{FairBound}
 use Rattle.structural.proofs.Laws.Bounds.{Power, power_of}
-use Rattle.told.specs.declared.Parts.TheVariants.{Copies}
+use Rattle.types.specs.declared.forms.Parts.TheVariants.{Copies}
 use Rattle.told.specs.Laws.Rows.{skip_copies}
 use Rattle.record.specs.Trees.{row, product, numbered, blocked, elements}
 use Rattle.restore.specs.Forms.{held, tree_at, made_at}
 use Rattle.restore.specs.Laws.Made.{made_same, made_of, numbered_some}
 use Rattle.restore.specs.Laws.Places.{Two, left_at, right_at, pair_at, made_there}
 use Rattle.restore.specs.Laws.Splits.{none_product, row_append}
-
--- the half of a bound that is more than 2
-record Half (b h : NonZeroPow2Usize) : Type 0 where
-  exponent : ℕ
-  fair : FairBound h
-  less : h.0 < b.0
-  power : h.0 ≡ 2 ^ suc exponent
-  log2 : bound_log2 h.0 ≡ suc exponent
-  twice : bound_log2 b.0 - 1 ≡ suc exponent
-
-half : {b h : NonZeroPow2Usize} → FairBound b → Some h ≡ half_bound b.0 → Half b h
-half {b} {h} f q = go f.exponent (power_of f)
-  where
-    go : (n : ℕ) → Power b n → Half b h
-    go zero k =
-        let m : half_bound b.0 ≡ None = ap half_bound k.power ∙ sym half_bound_two in
-        let z : ◌≡◌ {A = ℕ} 0 1 = cc in absurd (omega arith)
-    go (suc n) k =
-        let m : half_bound b.0 ≡ Some (bound (2 ^ suc n)) = ap half_bound k.power ∙ sym (half_bound_more n) in
-        let j : h ≡ bound (2 ^ suc n) = cc in
-        let a = bound_power n (omega arith) in
-        rw j (record {
-          exponent = n;
-          fair = record { exponent = n; admitted = a };
-          less = omega (arith, k.power, two-pow-succ (suc n), one-le-pow (suc n) 2 (omega arith));
-          power = refl;
-          log2 = (bounded (2 ^ suc n) n a).log2;
-          twice = let y = k.log2 in omega arith;
-        })
 
 module _ (sh : List ℕ) (d : ℕ) (s : List ℕ) where
   -- elements and how many
@@ -104,27 +73,23 @@ module _ (sh : List ℕ) (d : ℕ) (s : List ℕ) where
   -- LISTS
 
   -- with the bound 2 a list is a block of 1
-  pub list_two : {b : NonZeroPow2Usize} (p q : ℕ) → FairBound b → None ≡ half_bound b.0 → made_at sh (elements d s b p) q ≡ made_at sh (blocked d s 1 p) q
+  pub list_two : (p q : ℕ) (b : NonZeroPow2Usize) → None ≡ half_bound b → made_at sh (elements d s b p) q ≡ made_at sh (blocked d s 1 p) q
   unfolding elements blocked combine
-  list_two {b} p q f h = made_same sh (elements d s b p) (blocked d s 1 p) q (λ x. go x f.exponent (power_of f))
+  list_two p q b h = made_same sh (elements d s b p) (blocked d s 1 p) q one
     where
-      go : (x : SValue) (e : ℕ) → Power b e → bind_o (combine (bound_log2 b.0 - 1) x) (numbered_row p) ≡ bind_o (as_block 1 x) (numbered_row p)
-      go x zero k = rw k.log2 refl
-      go x (suc e) k =
-          let m : half_bound b.0 ≡ Some (bound (2 ^ suc e)) = ap half_bound k.power ∙ sym (half_bound_more e) in
-          let z : ◌≡◌ {A = ℕ} 0 1 = cc in absurd (omega arith)
+      one : (x : SValue) → bind_o (combine (bound_log2 b.value - 1) x) (numbered_row p) ≡ bind_o (as_block 1 x) (numbered_row p)
+      one x = rw (no_half {b = b} h).log2 refl
 
   -- with a larger one it is a pair of a block of the half, and the list with that bound
   pub record Halves (b h : NonZeroPow2Usize) (p q i : ℕ) (rs : List Rec) (e : ℕ) : Type 0 where
-    pub fair : FairBound h
-    pub less : h.0 < b.0
+    pub less : h.value < b.value
     pub inside : q < length sh
     pub mid : ℕ
     pub first : ℕ
     pub second : ℕ
     pub firsts : List Rec
     pub seconds : List Rec
-    pub block_there : made_at sh (blocked d s h.0 p) (q + 1) ≡ some ((first, firsts), mid)
+    pub block_there : made_at sh (blocked d s h.value p) (q + 1) ≡ some ((first, firsts), mid)
     pub list_there : made_at sh (elements d s h p) mid ≡ some ((second, seconds), e)
     pub number : i ≡ first + second
     pub all : rs ≡ firsts ++ seconds
@@ -147,12 +112,11 @@ module _ (sh : List ℕ) (d : ℕ) (s : List ℕ) where
       record { firsts = vs; seconds = ws; first_row = f; second_row = k; number = m ∙ length-append xs ys; all = sym l }
 
   -- of the trees of a block and a list
-  halves_in : {b h : NonZeroPow2Usize} {p q i : ℕ} {rs : List Rec} {e : ℕ} (k : Half b h) (x y : SValue) → Two sh q x y e → (xs ys : List SValue) → as_block (2 ^ suc k.exponent) x ≡ some xs → combine k.exponent y ≡ some ys → Rows p i rs xs ys → Halves b h p q i rs e
+  halves_in : {b h : NonZeroPow2Usize} {p q i : ℕ} {rs : List Rec} {e : ℕ} (k : HalfOf b h) (x y : SValue) → Two sh q x y e → (xs ys : List SValue) → as_block (2 ^ suc k.exponent) x ≡ some xs → combine k.exponent y ≡ some ys → Rows p i rs xs ys → Halves b h p q i rs e
   unfolding elements blocked
   halves_in {b} {h} {p = p} k x y t xs ys u v r =
-      let l : bound_log2 h.0 - 1 ≡ k.exponent = let m = k.log2 in omega arith in
+      let l : bound_log2 h.value - 1 ≡ k.exponent = let m = k.log2 in omega arith in
       record {
-        fair = k.fair;
         less = k.less;
         inside = t.inside;
         mid = t.mid;
@@ -166,7 +130,7 @@ module _ (sh : List ℕ) (d : ℕ) (s : List ℕ) where
         all = r.all;
       }
 
-  halves_of : {b h : NonZeroPow2Usize} (p q i : ℕ) (rs : List Rec) (e : ℕ) (k : Half b h) (x : SValue) → tree_at sh q ≡ some (x, e) → bind_o (combine (suc k.exponent) x) (numbered_row p) ≡ some (i, rs) → Halves b h p q i rs e
+  halves_of : {b h : NonZeroPow2Usize} (p q i : ℕ) (rs : List Rec) (e : ℕ) (k : HalfOf b h) (x : SValue) → tree_at sh q ≡ some (x, e) → bind_o (combine (suc k.exponent) x) (numbered_row p) ≡ some (i, rs) → Halves b h p q i rs e
   unfolding combine
   halves_of p q i rs e k unit t g = absurd (none-ne-some (i, rs) g)
   halves_of p q i rs e k (left x) t g = absurd (none-ne-some (i, rs) g)
@@ -177,9 +141,10 @@ module _ (sh : List ℕ) (d : ℕ) (s : List ℕ) where
       let (ys, w, z) = map_o_some _ (combine k.exponent y) zs v in
       halves_in k x y (pair_at x y t) xs ys u w (both_rows p i rs xs ys (ap (numbered_row p) z ∙ c))
 
-  pub list_more : {b h : NonZeroPow2Usize} (p q i : ℕ) (rs : List Rec) (e : ℕ) → FairBound b → Some h ≡ half_bound b.0 → made_at sh (elements d s b p) q ≡ some ((i, rs), e) → Halves b h p q i rs e
+  pub list_more : {b h : NonZeroPow2Usize} (p q i : ℕ) (rs : List Rec) (e : ℕ) → Some h ≡ half_bound b → made_at sh (elements d s b p) q ≡ some ((i, rs), e) → Halves b h p q i rs e
   unfolding elements
-  list_more {b} {h} p q i rs e f k g =
-      let u = half f k in
+  list_more {b} {h} p q i rs e k g =
+      let u = half_of k in
+      let j : bound_log2 b.value - 1 ≡ suc u.exponent = omega (arith, u.log2_twice) in
       let v = made_of sh (elements d s b p) q ((i, rs), e) g in
-      halves_of p q i rs e u v.tree v.stood (ap (λ j. bind_o (combine j v.tree) (numbered_row p)) (sym u.twice) ∙ v.made)
+      halves_of p q i rs e u v.tree v.stood (ap (λ j. bind_o (combine j v.tree) (numbered_row p)) (sym j) ∙ v.made)

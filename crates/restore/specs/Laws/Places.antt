@@ -1,5 +1,5 @@
 -- Laws of the trees of a shape file: what a tree's first record is, and where the trees below it stand.
-use Rattle.std.specs.Prelude.{◌≡◌, ℕ, suc, ◌+◌, ◌≤◌, ◌<◌, get_or, Option as Optional, Some, None}
+use Rattle.std.specs.Prelude.{◌≡◌, ℕ, suc, ◌+◌, ◌≤◌, ◌<◌, get_or, Option as Optional, Some, unwrap_or}
 use Rattle.std.proofs.Math.Path.{refl, sym, ap}
 use Rattle.std.proofs.Common.{◌∙◌, add-zero, arith, drop-drop, get_or-drop}
 use mathlib.Core.List.{List, ◌∷◌, ◌++◌, append_assoc}
@@ -110,14 +110,8 @@ module _ (sh : List ℕ) (q : ℕ) (g : Found (tree_at sh q)) where
   ends : tree_end_of sh q ≡ Some g.end
   ends = lies_end (lies g.there)
 
-  pub passed : (r : Optional ℕ) (n : ℕ) → r ≡ tree_end_of sh q → r ≡ Some n → Ends (tree_at sh q) n
-  passed r n h k = let e : g.end ≡ n = at_same _ _ (sym ends ∙ sym h ∙ k) in record { what = g.what; there = g.there ∙ ap (λ i. some (g.what, i)) e }
-    where
-      at_same : (i j : ℕ) → Some i ≡ Some j → i ≡ j
-      at_same i j k = cc
-
-  pub not_passed : (r : Optional ℕ) → r ≡ tree_end_of sh q → r ≡ None → ⊥
-  not_passed r h k = let e : Some g.end ≡ None = sym ends ∙ sym h ∙ k in let z : ◌≡◌ {A = ℕ} 0 1 = cc in absurd (omega arith)
+  pub passed : (r : Optional ℕ) (n : ℕ) → r ≡ tree_end_of sh q → n ≡ unwrap_or r q → Ends (tree_at sh q) n
+  passed r n h k = let e : g.end ≡ n = ap (λ r. unwrap_or r q) (sym (h ∙ ends)) ∙ sym k in record { what = g.what; there = g.there ∙ ap (λ i. some (g.what, i)) e }
 
 -- WHAT IS MADE OF A TREE
 

@@ -15,7 +15,7 @@ use Rattle.model.specs.Reconstruct.{unfold_tree, as_tuple, as_bit}
 use Rattle.model.proofs.Laws.Options.{bind_o_some, map_o_some}
 use Rattle.model.proofs.Laws.Balanced.{split_bounds, btree_fork}
 use Rattle.model.proofs.Laws.Valid.{length_as_tuple, length_map_m}
-use Rattle.told.specs.declared.Parts.{Parts}
+use Rattle.types.specs.declared.forms.Parts.{Parts}
 use Rattle.told.specs.Forms.{after, skip}
 use Rattle.record.specs.Trees.{part, row, product, bit_row}
 use Rattle.restore.specs.Forms.{tree_at, made_at, standing}

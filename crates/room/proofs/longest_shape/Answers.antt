@@ -1,6 +1,5 @@
 -- What stands at record 0 is a type, and `longest_record` counts what stands there. Assumes nothing.
 use mathlib.Core.Path.{◌∙◌, ap}
-use borrow.Author.Rules.{rules}
 use Rattle.model.specs.Room.{longest_shape}
 use Rattle.structural.proofs.Laws.Forms.{stands, standing_is}
 use Rattle.room.proofs.longest_shape.Goals as goal

@@ -7,12 +7,12 @@ loop-i-init c = none_at_first _
 
 pub returns-then-has_bits : goal.returns-then-has_bits
 returns-then-has_bits c = let a = c.args in
-    (c.loop-i-test.true, rw (← frame_cut a.size a.day.now c.loop-i.i) (rw c.width.ensures at (c.has_bits.ensures.yes c.if-has_bits.true)))
+    (c.loop-i-test.true, rw (← frame_cut a.size a.day.now c.loop-i.i) (c.has_bits.ensures.yes c.if-has_bits.true))
 
 pub loop-i-preserved : goal.loop-i-preserved
 loop-i-preserved c = let a = c.args in
     let l = c.loop-i in
-    none_next l.invariant (rw (← frame_cut a.size a.day.now l.i, ← c.width.ensures) (c.has_bits.ensures.no c.if-has_bits.false))
+    none_next l.invariant (rw (← frame_cut a.size a.day.now l.i) (c.has_bits.ensures.no c.if-has_bits.false))
 
 pub returns : goal.returns
 returns c = let b = c.loop-i.invariant in let l = c.loop-i-test.false in record { none_yet = λ j k. b.none_yet j (omega arith) }

@@ -1,4 +1,5 @@
 -- The answers of the whole search, from those of its loops; and that a place which is the same in all frames lies inside each.
+use Rattle.std.specs.Int.{div_ceil}
 use Rattle.std.specs.Prelude.{◌≡◌, refl, Bool, true, false, List, ℕ, ◌+◌, ◌-◌, ◌*◌, ◌%◌, ◌/◌, ◌≤◌, ◌<◌, length, get_or, take, drop, Option as Optional, Some, None, Ok}
 use Rattle.std.proofs.Common.{sym, ap, ◌∙◌, arith}
 use Rattle.std.proofs.Math.Option.{none}
@@ -22,6 +23,7 @@ use Rattle.bits.specs.Bits.{Inside}
 use Rattle.bits.specs.Laws.Integers.{bytes_each}
 use Rattle.told.specs.Widths.{Wide}
 use Rattle.accept.specs.Answers.{Lowered}
+use Rattle.accept.specs.Laws.Whole.{rounded}
 use Rattle.part.specs.declared.Spot.{Spot}
 use Rattle.part.specs.Forms.{fixed_in}
 use Rattle.part.specs.Holds.{Held}
@@ -36,8 +38,8 @@ pub cut_inside : (size : ℕ) (day : List ℕ) (i bit w : ℕ) → i < frames_in
 cut_inside size day i bit w l m h = (rw (cut_length size day i l) h, omega arith)
 
 -- the bytes for a width that the table tells
-pub sized : {w v : ℕ} → w ≡ v → (w + 7) / 8 ≡ (v + 7) / 8
-sized e = ap (λ w. (w + 7) / 8) e
+pub sized : {size w v : ℕ} → size ≡ div_ceil w 8 → w ≡ v → size ≡ (v + 7) / 8
+sized s e = rounded _ s ∙ ap (λ w. (w + 7) / 8) e
 
 -- a type that lowers has a value, so that some frame of it is accepted
 pub record Sample (s E : List ℕ) : Type 0 where

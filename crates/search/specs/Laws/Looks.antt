@@ -1,5 +1,5 @@
 -- Why the part's stretch decides whether a frame matches: reading the part gives the file of the value that stands there, and two values of one type with the same bits are one.
-use Rattle.std.specs.Prelude.{◌≡◌, Bool, true, false, List, ℕ, ◌≤◌, ◌<◌, length, get_or, Option as Optional, Result, Ok, Err}
+use Rattle.std.specs.Prelude.{◌≡◌, Bool, true, false, List, ℕ, ◌≤◌, ◌<◌, length, get_or, Result, Ok, Err}
 use Rattle.std.proofs.Math.Path.{refl}
 use Rattle.std.proofs.lemmas.Bool.{false≢true}
 use Rattle.std.specs.Result.{is_ok}
@@ -11,8 +11,7 @@ use Rattle.model.specs.Lowering.{lower}
 use Rattle.model.specs.Values.{Value, Valid}
 use Rattle.model.specs.ValueFiles.{encode, value_of, value_file}
 use Rattle.model.specs.Frames.{after, width, frame, frame_file, unframe}
-use Rattle.model.specs.Paths.{part_records}
-use Rattle.model.specs.Operations.{lowering, unframed, part_read}
+use Rattle.model.specs.Operations.{lowering, unframed}
 use Rattle.model.specs.Conditions.{FrameAccepted}
 use Rattle.model.specs.DayFiles.{Matches}
 use Rattle.model.proofs.Laws.Outcome.{done_injective, refused_done, outcome_step}
@@ -30,14 +29,10 @@ use Rattle.told.specs.Widths.{Wide}
 use Rattle.accept.specs.Answers.{Lowered, accepted, outcome_of}
 use Rattle.delivery.specs.Values.{value_valid}
 use Rattle.part.specs.declared.Spot.{Spot}
-use Rattle.part.specs.Forms.{found_in}
 use Rattle.part.specs.Laws.Holds.{holding_stands, holding_type}
-use Rattle.edit.specs.Opened.{Opened, opened, frame_refused, Arrived, path_refused}
-use Rattle.edit.specs.Reads.{read_is}
-use Rattle.search.specs.declared.Sought.{Sought}
-use Rattle.std.specs.declared.ops.ControlFlow.{ControlFlow}
-use Rattle.std.specs.declared.ops.ControlFlow.TheVariants.{Break, Continue}
-use Rattle.search.specs.Forms.{Says, Kept, Looked}
+use Rattle.edit.specs.Opened.{Opened, opened, frame_refused, Arrived, PartTold}
+use Rattle.edit.specs.Reads.{part_refused, read_is}
+use Rattle.search.specs.Forms.{Says}
 
 -- FRAMES THAT ARE ACCEPTED, AND NOT
 
@@ -74,11 +69,10 @@ same_frame : (t : Ty) (v w : Value t) → Valid t v → Valid t w → frame afte
 unfolding frame_file
 same_frame t v w h k e = done_injective v w (sym (frame_read_written after t v h) ∙ ap (λ l. unframe after t (fill l)) e ∙ frame_read_written after t w k)
 
--- a path that leads to no place leads to no part
-pub no_part : {s E W fr : List ℕ} (w : Wide s E W) (o : Opened s E fr) (path val : List ℕ) (r : Result Spot Refusal) → r ≡ found_in s E W fr path → ((x : Spot) → r ≡ Ok x → ⊥) → Matches after s fr path val → ⊥
-unfolding part_read
-no_part w o path val (Ok x) e n m = absurd (n x refl)
-no_part {s} w o path val (Err x) e n m = refused_done (refusal_number x) val (sym (rw (o.lowers, o.reads) (path_refused w o path e (λ f. done (part_records f (value_file (tree 32 s 0) o.value))) refl)) ∙ m.1)
+-- where no part is reached, nothing matches
+pub no_part : {s E fr path : List ℕ} (val : List ℕ) (r : Result Spot Refusal) → PartTold s E fr path r → ((x : Spot) → r ≡ Ok x → ⊥) → Matches after s fr path val → ⊥
+no_part val (Ok x) t n m = absurd (n x refl)
+no_part val (Err x) t n m = refused_done (refusal_number x) val (sym (part_refused (t.refused refl)) ∙ m.1)
 
 module _ {s E W fr path : List ℕ} (w : Wide s E W) {o : Opened s E fr} {p d b : ℕ} (a : Arrived s E fr path o p d b) where
   abbrev own : Ty
@@ -131,12 +125,3 @@ module _ {s E W fr path : List ℕ} (w : Wide s E W) {o : Opened s E fr} {p d b 
       -- other bits: no match
       pub stretch_other : {r : Bool} → Tells r (bits_at fr b (get_or W p 0) ≡ bits_at bits 0 (get_or W p 0)) → r ≡ false → Matches after s fr path val → ⊥
       stretch_other t z m = t.no z (stretch_same m)
-
--- WHAT A LOOK ANSWERS
-
-module _ (s fr path val bits : List ℕ) (r : ControlFlow Unit (Optional Sought)) (q : Looked s fr path val bits r) where
-  pub looked_match : {u : Unit} → r ≡ Break u → Matches after s fr path val
-  looked_match e = rw e at q
-
-  pub looked_not : {x : Optional Sought} → r ≡ Continue x → (Matches after s fr path val → ⊥) × Kept s val bits x
-  looked_not e = rw e at q

@@ -60,9 +60,6 @@ module _ {d : ℕ} {s E : List ℕ} {p : ℕ} (g : Given d false s E p) where
         unfolding frame
         wrote = rw type_there at (shape_framed d s val p 0 (inject (tree d s p) value) (length val / 36) told_is f).1
 
-        pub seek_length : length buf ≡ longest → length buf' ≡ longest
-        seek_length l = wrote.same ∙ l
-
         pub seek_said : Says (tree d s p) val buf' true
         seek_said = record {
           one = λ _. (value, value_is, ap (take (width (lower (tree d s p)))) wrote.bits ∙ take_at (frame after (tree d s p) value) _ (width (lower (tree d s p))) (length_frame after (tree d s p) value (value_valid (tree d s p) val value value_is)));

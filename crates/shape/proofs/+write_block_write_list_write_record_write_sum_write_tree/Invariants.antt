@@ -13,7 +13,7 @@ abbrev pub decreases-write_block : goal.decreases-write_block
 decreases-write_block l = l.level * 2 ^ 17 + l.n + 2
 
 abbrev pub decreases-write_list : goal.decreases-write_list
-decreases-write_list l = l.level * 2 ^ 17 + l.bound.0 + 4
+decreases-write_list l = l.level * 2 ^ 17 + l.bound.value + 4
 
 abbrev pub decreases-write_record : goal.decreases-write_record
 decreases-write_record l = l.level * 2 ^ 17

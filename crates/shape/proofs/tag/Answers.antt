@@ -5,5 +5,5 @@ use Rattle.shape.proofs.tag.Goals as goal
 pub returns-then-get_bit : goal.returns-then-get_bit
 returns-then-get_bit c = tag_right _ _ _ _ c.get_bit.ensures c.if-get_bit.true
 
-pub returns : goal.returns
-returns c = tag_left _ _ _ _ c.get_bit.ensures c.if-get_bit.false
+pub returns-else-get_bit : goal.returns-else-get_bit
+returns-else-get_bit c = tag_left _ _ _ _ c.get_bit.ensures c.if-get_bit.false

@@ -1,6 +1,6 @@
 -- Laws of writing bits: a bit is its tag and a unit, and several are written as the record of a pair and the two sides of their tree.
 use Rattle.std.specs.Prelude.{◌≡◌, refl, Bool, true, false, List, [], ◌∷◌, ℕ, ◌+◌, ◌-◌, ◌*◌, ◌≤◌, ◌<◌, length, take, drop, set}
-use Rattle.std.proofs.Common.{sym, ◌∙◌}
+use Rattle.std.proofs.Common.{sym, ◌∙◌, length-set}
 use Rattle.std.proofs.Math.Path.{ap}
 use native.Mathlib.Omega.{arith}
 use Rattle.std.proofs.Math.ListN.{get_or}
@@ -38,6 +38,9 @@ module _ (b : Bool) (out : List ℕ) (r : Room (bit b) out) where
   pub bit_room : 2 ≤ length out
   bit_room = omega (arith, r, ap length (bit_records b))
 
+  bit_second : (t : ℕ) → 1 < length (set out 0 t)
+  bit_second t = let l = bit_room in simp length-set (omega arith)
+
   pub bit_wrote : (t : ℕ) → t ≡ tag_of b → Wrote (shape_records (bit b)) out (set (set out 0 t) 1 0) 2
   bit_wrote t e = let l = bit_room in wrote_as (bit_records b ∙ ap {B = List ℕ} (λ x. x ∷ 0 ∷ []) (sym e)) (wrote_set (wrote_set (wrote_none out) t (omega arith)) 0 (omega arith))
 
@@ -49,6 +52,16 @@ module _ {val : List ℕ} {v j n : ℕ} (g : BitsThere val v j n) where
 
   pub one_there : n ≡ 1 → BitsThere val v j 1
   one_there e = rw (← e) g
+
+  module _ (out : List ℕ) (r : Room (bits_told val v j n) out) (e : n ≡ 1) where
+    one_room : Room (bit (record_bit val v j)) out
+    one_room = rw (← one_is e) r
+
+    pub one_second : (t : ℕ) → 1 < length (set out 0 t)
+    one_second = bit_second (record_bit val v j) out one_room
+
+    pub one_wrote : (t : ℕ) → t ≡ tag_of (record_bit val v j) → Wrote (shape_records (bits_told val v j n)) out (set (set out 0 t) 1 0) 2
+    one_wrote t h = wrote_as (ap shape_records (one_is e)) (bit_wrote (record_bit val v j) out one_room t h)
 
   module _ {few : ℕ} (e : few ≡ btree_split_index n) (o : n ≡ 1 → ⊥) where
     two : 2 ≤ n

@@ -13,7 +13,7 @@ abbrev pub decreases-copy_block : goal.decreases-copy_block
 decreases-copy_block l = l.level * 2 ^ 17 + l.n + 2
 
 abbrev pub decreases-copy_list : goal.decreases-copy_list
-decreases-copy_list l = l.level * 2 ^ 17 + l.bound.0 + 4
+decreases-copy_list l = l.level * 2 ^ 17 + l.bound.value + 4
 
 abbrev pub decreases-copy_product : goal.decreases-copy_product
 decreases-copy_product l = l.level * 2 ^ 17 + l.n + 1

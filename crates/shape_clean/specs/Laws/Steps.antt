@@ -43,6 +43,15 @@ module _ (s : List ℕ) (p : ℕ) (y : SValue × ℕ) where
           go (is_right f k) = k
           go (no_sum f g k) = absurd (none-ne-some y (sym k ∙ h))
 
+      pub sum_two : (get_or s p 4 ≡ 1 → ⊥) → get_or s p 4 ≡ 2
+      unfolding copied
+      sum_two n = go (sum_taken copied s p l r)
+        where
+          go : SumTaken copied s p l r → get_or s p 4 ≡ 2
+          go (is_left f k) = absurd (n f)
+          go (is_right f k) = f
+          go (no_sum f g k) = absurd (none-ne-some y (sym k ∙ h))
+
       pub sum_inside : p + 1 ≤ length s
       unfolding copied
       sum_inside = go (sum_taken copied s p l r)

@@ -9,7 +9,7 @@ use native.Mathlib.Omega.{arith}
 use Rattle.std.specs.Int.{w64}
 use Rattle.std.proofs.lemmas.List.{length-replicate}
 use Rattle.num.specs.declared.NonZeroPow2Usize.{NonZeroPow2Usize}
-use Rattle.num.specs.Powers.{bound, bound_log2}
+use Rattle.num.specs.Powers.{bound_two, bound_log2}
 use Rattle.model.specs.Balanced.{next_power_of_two, btree_split_index, btree, grow, fold}
 use Rattle.model.specs.Balanced as powers
 use Rattle.model.specs.Structural.{SType, 𝟙, ◌⊕◌, ◌⊗◌, product_of, partition_type}
@@ -22,7 +22,7 @@ use Rattle.types.specs.declared.Rec.{Rec}
 use Rattle.types.specs.declared.Rec.TheVariants.{Gone, Wrong, Enum, Variant}
 use Rattle.types.specs.declared.Rec.TheVariants as rec
 use Rattle.types.specs.Record.{head_at, calls_for, rec_at}
-use Rattle.types.specs.Heads.{Fair, FairBound}
+use Rattle.types.specs.Heads.{Fair}
 use Rattle.types.specs.Walks.{opens, walk}
 use Rattle.types.specs.Trees.{end_of, kids, cases, node, payload, tree, treev}
 use Rattle.types.specs.Unique.{bad_end}
@@ -96,7 +96,6 @@ pub record TreeOf (k : Parts) (n d : ℕ) (s E : List ℕ) (p : ℕ) (t : SType)
 
 -- t is the list of what stands at p
 pub record ListOf (b : NonZeroPow2Usize) (d : ℕ) (s E : List ℕ) (p : ℕ) (t : SType) : Type 0 where
-  pub fair : FairBound b
   pub given : Stands d s E p
   pub same : t ≡ listed d s b p
 
@@ -177,7 +176,7 @@ unfolding fold btree grow btree_split_index next_power_of_two powers.next
 sum_of_two a b = refl
 
 -- an Option's
-option_is : (d : ℕ) (s : List ℕ) (p : ℕ) → listed d s (bound 2) p ≡ 𝟙 ⊕ standing d s p
+option_is : (d : ℕ) (s : List ℕ) (p : ℕ) → listed d s bound_two p ≡ 𝟙 ⊕ standing d s p
 unfolding listed bound_log2 partition_type fold btree grow
 option_is d s p = refl
 
@@ -200,17 +199,17 @@ module _ {d : ℕ} {s E : List ℕ} {p : ℕ} (g : Stands d s E p) where
   formed Faulty e f = rw (type_is Faulty e refl) (no_parts (d - 1) s E (p + 1))
   formed Never e f = rw (type_is Never e refl) (no_parts (d - 1) s E (p + 1))
   formed Boolean e f = rw (type_is Boolean e refl) (bits_tree (d - 1) s E 1 (p + 1) (omega arith))
-  formed (UInt w) e f = rw (type_is (UInt w) e refl) (bits_tree (d - 1) s E w.0 (p + 1) (width_small w f))
+  formed (UInt w) e f = rw (type_is (UInt w) e refl) (bits_tree (d - 1) s E w.value (p + 1) (width_small w))
   formed Either e f = rw (type_is Either e refl, ← sum_of_two) (choices_tree (d - 1) s E false 2 (p + 1) (omega arith) (given_head Either g.given e refl))
   formed Opt e f =
       let b = only (given_head Opt g.given e refl) in
-      record { fair = record { exponent = 0; admitted = refl }; given = stands b; same = type_is Opt e refl ∙ sym (option_is (d - 1) s (p + 1) ∙ ap (λ t. 𝟙 ⊕ t) (standing_is b)) }
+      record { given = stands b; same = type_is Opt e refl ∙ sym (option_is (d - 1) s (p + 1) ∙ ap (λ t. 𝟙 ⊕ t) (standing_is b)) }
   formed (Tuple n) e f = rw (type_is (Tuple n) e refl, tuple_is (d - 1) s n (p + 1)) (types_tree (d - 1) s E false n (p + 1) (omega arith) (given_head (Tuple n) g.given e refl))
   formed (Array n) e f =
       let b = only (given_head (Array n) g.given e refl) in
       rw (type_is (Array n) e refl, ← standing_is b) (copies_tree (d - 1) s E n (p + 1) (omega arith) (stands b))
   formed (Listed b) e f =
       let c = only (given_head (Listed b) g.given e refl) in
-      record { fair = f; given = stands c; same = type_is (Listed b) e refl ∙ ap (partition_type (bound_log2 b.0 - 1)) (sym (standing_is c)) }
+      record { given = stands c; same = type_is (Listed b) e refl ∙ ap (partition_type (bound_log2 b.value - 1)) (sym (standing_is c)) }
   formed (Variants n) e f = rw (type_is (Variants n) e refl, enum_is (d - 1) s n (p + 1) f.0) (choices_tree (d - 1) s E true n (p + 1) (omega arith) (given_head (Variants n) g.given e refl))
   formed (Payload n) e f = rw (payload_is n e, tuple_is (d - 1) s n (p + 1)) (types_tree (d - 1) s E false n (p + 1) (omega arith) (given_head (Payload n) g.given e refl))

@@ -1,5 +1,5 @@
 -- What the steps of a walk over the parts of a tree know: what a record's form says, of which parts a record tells, and what is known of the parts of each side.
-use Rattle.std.specs.Prelude.{◌≡◌, refl, List, ℕ, ◌+◌, ◌-◌, ◌<◌, length}
+use Rattle.std.specs.Prelude.{◌≡◌, refl, List, ◌⊎◌, ℕ, ◌+◌, ◌-◌, ◌<◌, length}
 use Rattle.std.proofs.Common.{sym, ap, subst, ◌∙◌, arith}
 use Rattle.num.specs.declared.NonZeroPow2Usize.{NonZeroPow2Usize}
 use Rattle.model.proofs.Laws.Balanced.{Shares}
@@ -37,10 +37,7 @@ Told Choices = Unit
 
 -- what stands one after the other
 abbrev pub InRow : Parts → Type 0
-InRow Bits = ⊥
-InRow Copies = ⊥
-InRow Types = Unit
-InRow Choices = Unit
+InRow k = (k ≡ Types) ⊎ (k ≡ Choices)
 
 told_given : (k : Parts) (d : ℕ) (s E : List ℕ) (p : ℕ) → Told k → GivenPart k d s E p → Stands d s E p
 told_given Bits d s E p t g = absurd t

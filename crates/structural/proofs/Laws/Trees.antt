@@ -81,9 +81,14 @@ pub tree_join : (k : Parts) (d : ℕ) (s : List ℕ) (n few p q : ℕ) → few �
 tree_join k d s n few p q e z o g = rw (g, e) (balanced_step k d s n p (omega arith))
 
 -- and is written as the record that joins them, the left side and the right side
-pub tree_fork : (k : Parts) (d : ℕ) (s : List ℕ) (n few p q b : ℕ) (out : List ℕ) → few ≡ btree_split_index n → (n ≡ 0 → ⊥) → (n ≡ 1 → ⊥) → b ≡ joint_of k → q ≡ skip k d s few p → Room (balanced k d s n p) out
+pub tree_fork : (k : Parts) (d : ℕ) (s : List ℕ) (p : ℕ) {n few q b : ℕ} {out : List ℕ} → few ≡ btree_split_index n → (n ≡ 0 → ⊥) → (n ≡ 1 → ⊥) → b ≡ joint_of k → q ≡ skip k d s few p → Room (balanced k d s n p) out
     → Fork b (type_records (balanced k d s few p)) (type_records (balanced k d s (n - few) q)) (type_records (balanced k d s n p)) out
-tree_fork k d s n few p q b out e z o j g r = record { same = rw j (ap type_records (tree_join k d s n few p q e z o g) ∙ records_join k _ _); room = r }
+tree_fork k d s p {n} {few} {q} e z o j g r = record { same = rw j (ap type_records (tree_join k d s n few p q e z o g) ∙ records_join k _ _); room = r }
+
+-- the right side stands where the left side ends
+pub tree_start : (k : Parts) (d : ℕ) (s : List ℕ) (p : ℕ) {n few b : ℕ} {out : List ℕ} → few ≡ btree_split_index n → (n ≡ 0 → ⊥) → (n ≡ 1 → ⊥) → b ≡ joint_of k → Room (balanced k d s n p) out
+    → Fork b (type_records (balanced k d s few p)) (type_records (balanced k d s (n - few) (skip k d s few p))) (type_records (balanced k d s n p)) out
+tree_start k d s p e z o j r = tree_fork k d s p e z o j refl r
 
 -- PARTS THAT ARE THE SAME
 
@@ -99,9 +104,9 @@ pub skip_same : (k : Parts) (d : ℕ) (s : List ℕ) (n p : ℕ) → all_same k 
 skip_same k d s n p h = skip_stays k d s (same_after k d s h) n p
 
 -- sides of as many parts are the same side twice
-pub tree_twice : (k : Parts) (d : ℕ) (s : List ℕ) (n few p b : ℕ) (out : List ℕ) → few ≡ btree_split_index n → (n ≡ 0 → ⊥) → (n ≡ 1 → ⊥) → b ≡ joint_of k → all_same k ≡ true → few ≡ n - few → Room (balanced k d s n p) out
+pub tree_twice : (k : Parts) (d : ℕ) (s : List ℕ) (p : ℕ) {n few b : ℕ} {out : List ℕ} → few ≡ btree_split_index n → (n ≡ 0 → ⊥) → (n ≡ 1 → ⊥) → b ≡ joint_of k → all_same k ≡ true → few ≡ n - few → Room (balanced k d s n p) out
     → Fork b (type_records (balanced k d s few p)) (type_records (balanced k d s few p)) (type_records (balanced k d s n p)) out
-tree_twice k d s n few p b out e z o j h m r = subst (λ i. Fork b (type_records (balanced k d s few p)) (type_records (balanced k d s i p)) (type_records (balanced k d s n p)) out) (sym m) (tree_fork k d s n few p p b out e z o j (sym (skip_same k d s few p h)) r)
+tree_twice k d s p {n} {few} {b} {out} e z o j h m r = subst (λ i. Fork b (type_records (balanced k d s few p)) (type_records (balanced k d s i p)) (type_records (balanced k d s n p)) out) (sym m) (tree_fork k d s p e z o j (sym (skip_same k d s few p h)) r)
 
 -- their tree is an array's
 pub same_parts : (k : Parts) (d : ℕ) (s : List ℕ) (n p : ℕ) → all_same k ≡ true → balanced k d s n p ≡ product_of (replicate n (part k d s p))

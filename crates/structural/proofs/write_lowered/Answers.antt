@@ -1,6 +1,5 @@
 -- What stands at the record is a type, and `write_record` writes what stands there. Assumes nothing.
 use mathlib.Core.Path.{sym, ap}
-use borrow.Author.Rules.{rules}
 use Rattle.model.specs.Structural.{type_records}
 use Rattle.structural.proofs.Laws.Writing.{wrote_as}
 use Rattle.structural.proofs.Laws.Forms.{stands, standing_is}

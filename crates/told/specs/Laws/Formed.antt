@@ -8,7 +8,7 @@ use Prim.Native.Nat.{ℕ, suc, ◌+◌, ◌-◌, ◌/◌, ◌<◌, ◌≤◌}
 use native.Mathlib.Omega.{arith}
 use Rattle.num.specs.declared.NonZeroPow2Usize.{NonZeroPow2Usize}
 use Rattle.num.specs.declared.Pow2Usize.{Pow2Usize}
-use Rattle.num.specs.Powers.{bound, bound_log2}
+use Rattle.num.specs.Powers.{bound_two, bound_log2}
 use Rattle.model.specs.Balanced.{btree, fold}
 use Rattle.model.specs.Structural.{SValue, unit, pair, tuple_of}
 use Rattle.model.specs.Types.{Ty, never, bool, uint, either, option, tuple, array, list, enum, count}
@@ -20,7 +20,7 @@ use Rattle.types.specs.declared.Head.TheVariants.{Missing, Faulty, Never, Boolea
 use Rattle.types.specs.declared.Head.TheVariants as head
 use Rattle.types.specs.declared.Rec.TheVariants.{Variant}
 use Rattle.types.specs.Record.{head_at, calls_for, rec_at}
-use Rattle.types.specs.Heads.{Fair, FairBound, FairWidth, width_range}
+use Rattle.types.specs.Heads.{Fair, fair_bound_of, width_range}
 use Rattle.types.specs.Walks.{walk}
 use Rattle.types.specs.Trees.{end_of, kids, cases, node, payload, tree, treev}
 use Rattle.types.specs.Steps.{Given, GivenRow, given_levels, given_head, given_end, tree_in, treev_in, size_kids, count_cases}
@@ -29,8 +29,8 @@ use Rattle.structural.proofs.Laws.Forms.{stands}
 use Rattle.structural.proofs.Laws.Bounds.{power_of}
 use Rattle.value.specs.Record.{number_at}
 use Rattle.value.specs.Arms.{width_small}
-use Rattle.told.specs.declared.Parts.{Parts}
-use Rattle.told.specs.declared.Parts.TheVariants.{Copies, Types}
+use Rattle.types.specs.declared.forms.Parts.{Parts}
+use Rattle.types.specs.declared.forms.Parts.TheVariants.{Copies, Types}
 use Rattle.told.specs.declared.Form.{Form}
 use Rattle.told.specs.declared.Form.TheVariants as form
 use Rattle.told.specs.Forms.{choice_at, form_of, Read, rows_from, shown, told, standing, GivenParts, bits_told, balanced, chosen, listed, hops, Hops}
@@ -62,8 +62,7 @@ pub record SumTold (n i d : ℕ) (s E val : List ℕ) (p v : ℕ) : Type 0 where
   pub same : standing d s val p v ≡ chosen (d - 1) s val n i (hops E i (p + 1)) (v + 1)
 
 pub record ListTold (b : NonZeroPow2Usize) (m d : ℕ) (s E val : List ℕ) (p v : ℕ) : Type 0 where
-  pub fair : FairBound b
-  pub less : m < b.0
+  pub less : m < b.value
   pub there : v < length val / 36
   pub given : Stands (d - 1) s E (p + 1)
   pub same : standing d s val p v ≡ listed (d - 1) s val b m (p + 1) (v + 1)
@@ -80,10 +79,6 @@ Formed (form.Product k n) d s E val p v = ProductTold k n d s E val p v
 Formed (form.Sum n i) d s E val p v = SumTold n i d s E val p v
 Formed (form.List b m) d s E val p v = ListTold b m d s E val p v
 Formed (form.Payload n) d s E val p v = PayloadTold n d s E val p v
-
--- a width is 1 at least
-some_width : (w : Pow2Usize) → FairWidth w → 1 ≤ w.0
-some_width w f = (width_range w f).0
 
 module _ (d : ℕ) (s E val : List ℕ) (p v : ℕ) (y : SValue × ℕ) (g : Stands d s E p) (told_so : standing d s val p v ≡ some y) where
   -- the type's node, over what stands below it
@@ -149,30 +144,29 @@ module _ (d : ℕ) (s E val : List ℕ) (p v : ℕ) (y : SValue × ℕ) (g : Sta
 
   -- LISTS
 
-  list_told : (b : NonZeroPow2Usize) → standing d s val p v ≡ said (list (tree (d - 1) s (p + 1)) (bound_log2 b.0 - 1)) val v → FairBound b → Given (d - 1) false s E (p + 1) → ListTold b (number_at val v) d s E val p v
+  list_told : (b : NonZeroPow2Usize) → standing d s val p v ≡ said (list (tree (d - 1) s (p + 1)) (bound_log2 b.value - 1)) val v → Given (d - 1) false s E (p + 1) → ListTold b (number_at val v) d s E val p v
   unfolding listed
-  list_told b e f c =
+  list_told b e c =
       let a = tree (d - 1) s (p + 1) in
-      let h = here (list a (bound_log2 b.0 - 1)) e in
-      let w = list_said val v y a (bound_log2 b.0 - 1) h.says in
-      let q = power_of f in
-      let m : suc (bound_log2 b.0 - 1) ≡ suc f.exponent = omega (arith, q.log2) in
+      let h = here (list a (bound_log2 b.value - 1)) e in
+      let w = list_said val v y a (bound_log2 b.value - 1) h.says in
+      let f = fair_bound_of b in
+      let q = power_of b in
+      let m : suc (bound_log2 b.value - 1) ≡ suc f.exponent = omega (arith, q.log2) in
       record {
-        fair = f;
         less = rw (q.power, ← m) w.0;
         there = h.there;
         given = stands c;
-        same = h.same ∙ w.1 ∙ ap (parted (bound_log2 b.0 - 1)) (sym (copies_row (d - 1) s E val (number_at val v) (p + 1) (v + 1) c));
+        same = h.same ∙ w.1 ∙ ap (parted (bound_log2 b.value - 1)) (sym (copies_row (d - 1) s E val (number_at val v) (p + 1) (v + 1) c));
       }
 
-  option_told : standing d s val p v ≡ said (option (tree (d - 1) s (p + 1))) val v → Given (d - 1) false s E (p + 1) → ListTold (bound 2) (choice_at val v) d s E val p v
+  option_told : standing d s val p v ≡ said (option (tree (d - 1) s (p + 1))) val v → Given (d - 1) false s E (p + 1) → ListTold bound_two (choice_at val v) d s E val p v
   unfolding listed bound_log2
   option_told e c =
       let a = tree (d - 1) s (p + 1) in
       let h = here (option a) e in
       let w = option_said val v y a h.says in
       record {
-        fair = record { exponent = 0; admitted = refl };
         less = w.0;
         there = h.there;
         given = stands c;
@@ -225,11 +219,11 @@ module _ (d : ℕ) (s E val : List ℕ) (p v : ℕ) (y : SValue × ℕ) (g : Sta
   bool_told : standing d s val p v ≡ said bool val v → BitsTold 15 1 d s val p v
   bool_told e = let h = here bool e in record { some_bits = omega arith; few = omega arith; inside = omega arith; there = h.there; same = h.same ∙ bool_said val v h.there y h.says }
 
-  uint_told : (w : Pow2Usize) → FairWidth w → standing d s val p v ≡ said (uint w.0) val v → BitsTold (288 - w.0) w.0 d s val p v
-  uint_told w f e =
-      let h = here (uint w.0) e in
-      let l : w.0 ≤ 256 = width_small w w.0 f refl in
-      record { some_bits = some_width w f; few = l; inside = omega arith; there = h.there; same = h.same ∙ uint_said val v h.there y w.0 l h.says }
+  uint_told : (w : Pow2Usize) → standing d s val p v ≡ said (uint w.value) val v → BitsTold (288 - w.value) w.value d s val p v
+  uint_told w e =
+      let h = here (uint w.value) e in
+      let l : w.value ≤ 256 = width_small w w.value refl in
+      record { some_bits = (width_range w).0; few = l; inside = omega arith; there = h.there; same = h.same ∙ uint_said val v h.there y w.value l h.says }
 
   never_told : {A : Type 0} → standing d s val p v ≡ said never val v → A
   unfolding parse_at
@@ -242,12 +236,12 @@ formed Missing d s E val p v y g t e f = types_told d s E val p v y g t 0 (type_
 formed Faulty d s E val p v y g t e f = types_told d s E val p v y g t 0 (type_is d s E val p v y g t Faulty e refl) (omega arith) (given_head Faulty g.given e refl)
 formed Never d s E val p v y g t e f = never_told d s E val p v y g t (type_is d s E val p v y g t Never e refl)
 formed Boolean d s E val p v y g t e f = bool_told d s E val p v y g t (type_is d s E val p v y g t Boolean e refl)
-formed (UInt w) d s E val p v y g t e f = uint_told d s E val p v y g t w f (type_is d s E val p v y g t (UInt w) e refl)
+formed (UInt w) d s E val p v y g t e f = uint_told d s E val p v y g t w (type_is d s E val p v y g t (UInt w) e refl)
 formed Either d s E val p v y g t e f = either_told d s E val p v y g t (type_is d s E val p v y g t Either e refl) (given_head Either g.given e refl)
 formed Opt d s E val p v y g t e f = option_told d s E val p v y g t (type_is d s E val p v y g t Opt e refl) (first (given_head Opt g.given e refl))
 formed (Tuple n) d s E val p v y g t e f = types_told d s E val p v y g t n (type_is d s E val p v y g t (Tuple n) e refl) (omega arith) (given_head (Tuple n) g.given e refl)
 formed (Array n) d s E val p v y g t e f = copies_told d s E val p v y g t n (type_is d s E val p v y g t (Array n) e refl) (omega arith) (first (given_head (Array n) g.given e refl))
-formed (Listed b) d s E val p v y g t e f = list_told d s E val p v y g t b (type_is d s E val p v y g t (Listed b) e refl) f (first (given_head (Listed b) g.given e refl))
+formed (Listed b) d s E val p v y g t e f = list_told d s E val p v y g t b (type_is d s E val p v y g t (Listed b) e refl) (first (given_head (Listed b) g.given e refl))
 formed (Variants n) d s E val p v y g t e f = enum_told d s E val p v y g t n (type_is d s E val p v y g t (Variants n) e refl) f.0 (omega arith) (given_head (Variants n) g.given e refl)
 formed (head.Payload n) d s E val p v y g t e f = payload_told d s E val p v y g t n e (omega arith) (given_head (head.Payload n) g.given e refl)
 
@@ -257,7 +251,7 @@ readable Missing d s E val p v y g t e f = tt
 readable Faulty d s E val p v y g t e f = tt
 readable Never d s E val p v y g t e f = tt
 readable Boolean d s E val p v y g t e f = tt
-readable (UInt w) d s E val p v y g t e f = width_small w w.0 f refl
+readable (UInt w) d s E val p v y g t e f = width_small w w.value refl
 readable Either d s E val p v y g t e f = (formed Either d s E val p v y g t e f).there
 readable Opt d s E val p v y g t e f = (formed Opt d s E val p v y g t e f).there
 readable (Tuple n) d s E val p v y g t e f = tt

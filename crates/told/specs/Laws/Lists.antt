@@ -6,7 +6,7 @@ use Rattle.std.proofs.Math.Bool.{Bool, true, false}
 use mathlib.Core.List.{List, [], ◌∷◌, ◌++◌, map}
 use Rattle.std.proofs.Math.Option.{Option, none, some, none-ne-some, some-injective}
 use Prim.Native.Nat.{ℕ, zero, suc, ◌+◌, ◌-◌, ◌*◌, ◌/◌, ◌^◌, ◌≤◌, ◌<◌}
-use Rattle.std.proofs.Math.Nat.{two-pow-succ, one-le-pow, sub-zero}
+use Rattle.std.proofs.Math.Nat.{two-pow-succ, sub-zero}
 use native.Mathlib.Omega.{arith}
 use Rattle.std.proofs.Math.Dec.{ltb}
 use Rattle.std.proofs.Math.ListN.{length, take, drop, length-append, length-take, length-drop}
@@ -14,8 +14,8 @@ use Rattle.std.specs.Prelude.{get_or, Some, None}
 use Rattle.std.proofs.Math.Seq.{take_at, drop_at}
 use borrow.Author.Tests.{ltb-true, ltb-false, lt-ltb, le-ltb}
 use Rattle.num.specs.declared.NonZeroPow2Usize.{NonZeroPow2Usize}
-use Rattle.num.specs.Powers.{bound, bound_log2, half_bound}
-use Rattle.num.specs.Laws.{bounded, bound_power, half_bound_two, half_bound_more}
+use Rattle.num.specs.Powers.{half_bound}
+use Rattle.num.specs.Laws.{no_half, HalfOf, half_of}
 use Rattle.model.specs.Options.{pick, map_o}
 use Rattle.model.specs.Bytes.{bits_of}
 use Rattle.model.specs.Balanced.{btree_split_index, btree, fold}
@@ -25,9 +25,8 @@ use Rattle.model.proofs.Laws.Bytes.{length_bits_of}
 use Rattle.model.proofs.Laws.Balanced.{split_bounds}
 use Rattle.model.proofs.Laws.Records.{drop_take}
 use Rattle.model.proofs.Laws.Sizes.{fold_one, fold_step, enum_one, enum_step}
-use Rattle.types.specs.Heads.{FairBound}
 use Rattle.structural.proofs.Laws.Bounds.{Power, power_of}
-use Rattle.told.specs.declared.Parts.TheVariants.{Copies}
+use Rattle.types.specs.declared.forms.Parts.TheVariants.{Copies}
 use Rattle.told.specs.Forms.{Told, standing, record_bits, row, bits_told, balanced, chosen, listed}
 use Rattle.told.specs.Laws.Rows.{skip_copies}
 use Rattle.told.specs.Laws.Trees.{Shapes, paired, and_then, joined, row_add, row_length}
@@ -133,11 +132,10 @@ block_share m h = pick (ltb m h) 0 h
 
 -- the half h of the bound b, and the share n of m elements that the block of h takes
 pub record Halved (b h : NonZeroPow2Usize) (m n d : ℕ) (s val : List ℕ) (p v : ℕ) : Type 0 where
-  pub fair : FairBound h
-  pub less : h.0 < b.0
-  pub share : n ≤ h.0
+  pub less : h.value < b.value
+  pub share : n ≤ h.value
   pub most : n ≤ m
-  pub others : m - n < h.0
+  pub others : m - n < h.value
   pub same : listed d s val b m p v ≡ joined (block_told d s val n p v) (listed d s val h (m - n) p)
 
 abbrev blocked : List SValue × ℕ → SValue × ℕ
@@ -162,16 +160,9 @@ module _ (d : ℕ) (s val : List ℕ) where
       full (x ∷ xs) e = ap (λ i. right (fold pair unit (btree i) (x ∷ xs))) e
 
   -- with the bound 2 a list is a block
-  pub listed_two : {b : NonZeroPow2Usize} (m p v : ℕ) → FairBound b → None ≡ half_bound b.0 → listed d s val b m p v ≡ block_told d s val m p v
+  pub listed_two : (m p v : ℕ) (b : NonZeroPow2Usize) → None ≡ half_bound b → listed d s val b m p v ≡ block_told d s val m p v
   unfolding listed block_told partition
-  listed_two {b} m p v f h = go f.exponent (power_of f)
-    where
-      go : (e : ℕ) → Power b e → map_o (parted (bound_log2 b.0 - 1)) (row Copies d s val m p v) ≡ map_o blocked (row Copies d s val m p v)
-      go zero k = rw k.log2 refl
-      go (suc e) k =
-          let m = ap half_bound k.power in
-          let o = half_bound_more e in
-          let z : ◌≡◌ {A = ℕ} 0 1 = cc in absurd (omega arith)
+  listed_two m p v b h = rw (no_half {b = b} h).log2 refl
 
   -- by the exponents: a block of none, or of 2 ^ suc e
   few_parted : (e m p v : ℕ) → m < 2 ^ suc e → map_o (parted (suc e)) (row Copies d s val m p v) ≡ map_o (paired (left unit)) (map_o (parted e) (row Copies d s val m p v))
@@ -209,31 +200,23 @@ module _ (d : ℕ) (s val : List ℕ) where
           ∙ most (row Copies d s val (2 ^ suc e) p v) refl
 
   -- with a larger one it is a block of its share, and the list of the rest with half the bound
-  pub listed_more : {b h : NonZeroPow2Usize} (m n p v : ℕ) → FairBound b → Some h ≡ half_bound b.0 → m < b.0 → n ≡ block_share m h.0 → Halved b h m n d s val p v
+  pub listed_more : {b h : NonZeroPow2Usize} (m n p v : ℕ) → Some h ≡ half_bound b → m < b.value → n ≡ block_share m h.value → Halved b h m n d s val p v
   unfolding listed
-  listed_more {b} {h} m n p v f q l r = go f.exponent (power_of f)
+  listed_more {b} {h} m n p v q l r = go (half_of q)
     where
       share : (c : Bool) (x : ℕ) → ltb m x ≡ c → m < x + x → (pick c 0 x ≤ x) × (pick c 0 x ≤ m) × (m - pick c 0 x < x)
       share true x i l = let k : m < x = ltb-true _ _ i in (omega arith, omega arith, omega arith)
       share false x i l = let k : x ≤ m = ltb-false _ _ i in (omega arith, omega arith, omega arith)
 
-      go : (e : ℕ) → Power b e → Halved b h m n d s val p v
-      go zero k =
-          let m = ap half_bound k.power in
-          let o = half_bound_two in
-          let z : ◌≡◌ {A = ℕ} 0 1 = cc in absurd (omega arith)
-      go (suc e) k =
-          let g = ap half_bound k.power in
-          let o = half_bound_more e in
-          let i : h ≡ bound (2 ^ suc e) = cc in
-          let a = bound_power e (omega arith) in
-          let c : n ≡ block_share m (2 ^ suc e) = r ∙ ap (λ (x : NonZeroPow2Usize). block_share m x.0) i in
-          let u = share (ltb m (2 ^ suc e)) (2 ^ suc e) refl (omega (arith, k.power, two-pow-succ (suc e))) in
-          rw i (record {
-            fair = record { exponent = e; admitted = a };
-            less = omega (arith, k.power, two-pow-succ (suc e), one-le-pow (suc e) 2 (omega arith));
-            share = rw c u.0;
+      go : HalfOf b h → Halved b h m n d s val p v
+      go k =
+          let e = k.exponent in
+          let c : n ≡ block_share m (2 ^ suc e) = r ∙ ap (block_share m) k.power in
+          let u = share (ltb m (2 ^ suc e)) (2 ^ suc e) refl (omega (arith, k.twice, two-pow-succ (suc e))) in
+          record {
+            less = k.less;
+            share = rw (c, k.power) u.0;
             most = rw c u.1;
-            others = rw c u.2;
-            same = rw (k.log2, (bounded (2 ^ suc e) e a).log2, sub-one, sub-one) (share_parted e m n p v c);
-          })
+            others = rw (c, k.power) u.2;
+            same = rw (k.log2_twice, k.log2, sub-one, sub-one) (share_parted e m n p v c);
+          }

@@ -16,8 +16,8 @@ use Rattle.types.specs.Trees.{end_of, kids, tree}
 use Rattle.types.specs.Steps.{Given, GivenRow, given_first, given_rest, given_end, given_inside}
 use Rattle.structural.specs.Forms.{Stands}
 use Rattle.structural.proofs.Laws.Forms.{is_kind, stands, stands_end, ending_is}
-use Rattle.told.specs.declared.Parts.{Parts}
-use Rattle.told.specs.declared.Parts.TheVariants.{Copies, Types}
+use Rattle.types.specs.declared.forms.Parts.{Parts}
+use Rattle.types.specs.declared.forms.Parts.TheVariants.{Copies, Types}
 use Rattle.told.specs.Forms.{Told, rows_from, shown, told, standing, after, skip, row, GivenParts, hops, Hops, after_at}
 use Rattle.told.specs.Laws.Seen.{seen, seen_then}
 

@@ -13,7 +13,7 @@ use Rattle.model.specs.Structural.{SValue, unit, pair}
 use Rattle.model.proofs.Laws.Balanced.{split_bounds, Shares}
 use Rattle.model.proofs.Laws.Sizes.{fold_none, fold_one, fold_step}
 use Rattle.structural.specs.Forms.{Stands}
-use Rattle.told.specs.declared.Parts.{Parts}
+use Rattle.types.specs.declared.forms.Parts.{Parts}
 use Rattle.told.specs.Forms.{Told, standing, after, skip, row, GivenParts, balanced}
 
 -- ONE AFTER THE OTHER

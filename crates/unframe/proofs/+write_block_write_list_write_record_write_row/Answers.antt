@@ -1,4 +1,4 @@
-use mathlib.Core.Path.{◌≡◌, sym, ap, ◌∙◌}
+use mathlib.Core.Path.{◌≡◌, refl, sym, ap, ◌∙◌}
 use Prim.Native.Nat.{◌+◌, ◌-◌, ◌^◌, ◌<◌}
 use native.Mathlib.Omega.{arith}
 use borrow.Author.Rules.{rules}
@@ -16,8 +16,8 @@ use Rattle.record.specs.Laws.Writing.{lent_length}
 use Rattle.accept.specs.Forms.{tag_at}
 use Rattle.accept.specs.Laws.Formed.{copies_wide}
 use Rattle.unframe.specs.Laws.Formed.{as_nothing, as_boolean, as_integer, as_product, as_sum, as_list, as_payload}
-use Rattle.unframe.specs.Laws.Lists.{listed_below, list_two, list_more}
-use Rattle.unframe.proofs.Steps.{nothing_there, ready_as, placed_as, one_room, one_placed, bit_below, marked_room, marked_ready, marked_length, marked_small, marked_placed, numbered_room, numbered_ready, numbered_length, numbered_small, numbered_placed, rowing_start, rowing_length, rowing_fits, rowing_end, rowing_stands, rowing_inside, rowing_ready, rowing_small, rowing_next, head_length, integer_placed, block_ready, block_placed, block_missing, two_ready, two_placed, two_missing, block_wide, first_ready, block_fits, second_ready, lengths_fit, list_placed, two_wide, halved_wide, halved_blocks}
+use Rattle.unframe.specs.Laws.Lists.{listed_below, list_two}
+use Rattle.unframe.proofs.Steps.{nothing_there, ready_as, placed_as, one_room, one_placed, bit_below, marked_room, marked_ready, marked_length, marked_small, marked_placed, numbered_room, numbered_ready, numbered_length, numbered_small, numbered_placed, rowing_start, rowing_length, rowing_fits, rowing_end, rowing_stands, rowing_inside, rowing_ready, rowing_small, rowing_next, head_length, integer_placed, block_ready, block_placed, block_missing, two_ready, two_placed, two_missing, listing, first_ready, block_fits, second_ready, lengths_fit, list_placed, two_wide, bit_number_is}
 use Rattle.unframe.proofs.+write_block_write_list_write_record_write_row.Goals as goal
 
 pub write_block-bit_at-requires : goal.write_block-bit_at-requires
@@ -44,46 +44,43 @@ write_block-returns-then-not-bit_at t c = let a = c.args in block_missing a.leve
 
 pub write_list-bit_at-requires : goal.write_list-bit_at-requires
 write_list-bit_at-requires t c = let a = c.args in
-    let two = list_two a.level a.table.now.ty.now a.at c.requires.fair_bound (sym c.in-None.is ∙ c.checked_div2.ensures) in
+    let two = list_two a.level a.table.now.ty.now a.at (sym c.in-None.is ∙ c.checked_div2.ensures) in
     let w = two_wide two in
     omega arith
 
 pub write_list-overflow_add-bit : goal.write_list-overflow_add-bit
 write_list-overflow_add-bit t c = let a = c.args in
-    let two = list_two a.level a.table.now.ty.now a.at c.requires.fair_bound (sym c.in-None.is ∙ c.checked_div2.ensures) in
+    let two = list_two a.level a.table.now.ty.now a.at (sym c.in-None.is ∙ c.checked_div2.ensures) in
     let w = two_wide two in
     omega arith
 
 pub write_list-write_record-requires : goal.write_list-write_record-requires
 write_list-write_record-requires t c = let a = c.args in
-    let two = list_two a.level a.table.now.ty.now a.at c.requires.fair_bound (sym c.in-None.is ∙ c.checked_div2.ensures) in
+    let two = list_two a.level a.table.now.ty.now a.at (sym c.in-None.is ∙ c.checked_div2.ensures) in
     let w = two_wide two in
     (omega arith, (c.requires.stands, (c.requires.wide, ((omega arith, omega arith), two_ready two a.frame.now a.bit c.requires.ready_numbered (sym c.bit_at.ensures ∙ c.if-not-bit_at.false)))))
 
 pub write_list-returns-in-None-2 : goal.write_list-returns-in-None-2
 write_list-returns-in-None-2 t c = let a = c.args in
-    let two = list_two a.level a.table.now.ty.now a.at c.requires.fair_bound (sym c.in-None.is ∙ c.checked_div2.ensures) in
+    let two = list_two a.level a.table.now.ty.now a.at (sym c.in-None.is ∙ c.checked_div2.ensures) in
     two_placed two a.frame.now a.bit (sym c.bit_at.ensures ∙ c.if-not-bit_at.false) c.write_record.ensures
 
 pub write_list-returns-in-None : goal.write_list-returns-in-None
 write_list-returns-in-None t c = let a = c.args in
-    let two = list_two a.level a.table.now.ty.now a.at c.requires.fair_bound (sym c.in-None.is ∙ c.checked_div2.ensures) in
+    let two = list_two a.level a.table.now.ty.now a.at (sym c.in-None.is ∙ c.checked_div2.ensures) in
     two_missing two a.frame.now a.bit a.out.now (sym c.bit_at.ensures ∙ c.if-not-bit_at.true)
 
 pub write_list-write_block-block-requires : goal.write_list-write_block-block-requires
 write_list-write_block-block-requires t c = let a = c.args in
-    let element = c.requires.wide.right a.level a.at c.requires.stands in
-    let halving = list_more a.level a.table.now.ty.now a.at c.requires.fair_bound (sym c.in-Some.is ∙ c.checked_div2.ensures) in
-    let wide_half = halved_wide halving c.get-n.ensures element in
-    let blocks = halved_blocks halving c.get-n.ensures element a.frame.now a.bit in
-    let f = block_wide (structural.standing a.level a.table.now.ty.now a.at) c.get-n.result _ element in
-    (omega arith, (c.requires.stands, (c.requires.wide, ((omega arith, omega arith), first_ready blocks c.requires.ready_numbered))))
+    let i = listing c.requires.stands c.requires.wide c.checked_div2.ensures c.in-Some.is c.get-n.ensures refl in
+    let w = i.wide in
+    let b = i.tagged in
+    (omega arith, (c.requires.stands, (c.requires.wide, ((omega arith, omega arith), first_ready (i.blocks a.frame.now a.bit) c.requires.ready_numbered))))
 
 pub write_list-overflow_add-next : goal.write_list-overflow_add-next
 write_list-overflow_add-next t c = let a = c.args in
-    let element = c.requires.wide.right a.level a.at c.requires.stands in
-    let halving = list_more a.level a.table.now.ty.now a.at c.requires.fair_bound (sym c.in-Some.is ∙ c.checked_div2.ensures) in
-    let wide_half = halved_wide halving c.get-n.ensures element in
+    let i = listing c.requires.stands c.requires.wide c.checked_div2.ensures c.in-Some.is c.get-n.ensures refl in
+    let w = i.wide in
     omega arith
 
 pub write_list-width-requires : goal.write_list-width-requires
@@ -91,84 +88,70 @@ write_list-width-requires t c = width_there c.requires.stands c.requires.wide
 
 pub write_list-overflow_mul-next : goal.write_list-overflow_mul-next
 write_list-overflow_mul-next t c = let a = c.args in
-    let element = c.width.ensures ∙ c.requires.wide.right a.level a.at c.requires.stands in
-    let halving = list_more a.level a.table.now.ty.now a.at c.requires.fair_bound (sym c.in-Some.is ∙ c.checked_div2.ensures) in
-    let wide_half = halved_wide halving c.get-n.ensures element in
+    let i = listing c.requires.stands c.requires.wide c.checked_div2.ensures c.in-Some.is c.get-n.ensures c.width.ensures in
+    let w = i.wide in
     omega arith
 
 pub write_list-overflow_add-next-in-Some : goal.write_list-overflow_add-next-in-Some
 write_list-overflow_add-next-in-Some t c = let a = c.args in
-    let element = c.width.ensures ∙ c.requires.wide.right a.level a.at c.requires.stands in
-    let halving = list_more a.level a.table.now.ty.now a.at c.requires.fair_bound (sym c.in-Some.is ∙ c.checked_div2.ensures) in
-    let wide_half = halved_wide halving c.get-n.ensures element in
+    let i = listing c.requires.stands c.requires.wide c.checked_div2.ensures c.in-Some.is c.get-n.ensures c.width.ensures in
+    let w = i.wide in
     omega arith
 
 pub write_list-slice_bounds-write_list-count : goal.write_list-slice_bounds-write_list-count
 write_list-slice_bounds-write_list-count t c = let a = c.args in
-    let element = c.width.ensures ∙ c.requires.wide.right a.level a.at c.requires.stands in
-    let halving = list_more a.level a.table.now.ty.now a.at c.requires.fair_bound (sym c.in-Some.is ∙ c.checked_div2.ensures) in
-    let blocks = halved_blocks halving c.get-n.ensures element a.frame.now a.bit in
-    block_fits blocks c.requires.ready_numbered c.write_block-block.ensures
+    let i = listing c.requires.stands c.requires.wide c.checked_div2.ensures c.in-Some.is c.get-n.ensures c.width.ensures in
+    block_fits (i.blocks a.frame.now a.bit) c.requires.ready_numbered c.write_block-block.ensures
 
 pub write_list-slice_bounds-write_list-start : goal.write_list-slice_bounds-write_list-start
 write_list-slice_bounds-write_list-start t c = let a = c.args in
-    let element = c.width.ensures ∙ c.requires.wide.right a.level a.at c.requires.stands in
-    let halving = list_more a.level a.table.now.ty.now a.at c.requires.fair_bound (sym c.in-Some.is ∙ c.checked_div2.ensures) in
-    let blocks = halved_blocks halving c.get-n.ensures element a.frame.now a.bit in
-    block_fits blocks c.requires.ready_numbered c.write_block-block.ensures
+    let i = listing c.requires.stands c.requires.wide c.checked_div2.ensures c.in-Some.is c.get-n.ensures c.width.ensures in
+    block_fits (i.blocks a.frame.now a.bit) c.requires.ready_numbered c.write_block-block.ensures
 
 pub write_list-write_list-others-requires : goal.write_list-write_list-others-requires
 write_list-write_list-others-requires t c = let a = c.args in
-    let element = c.width.ensures ∙ c.requires.wide.right a.level a.at c.requires.stands in
-    let halving = list_more a.level a.table.now.ty.now a.at c.requires.fair_bound (sym c.in-Some.is ∙ c.checked_div2.ensures) in
-    let wide_half = halved_wide halving c.get-n.ensures element in
-    let blocks = halved_blocks halving c.get-n.ensures element a.frame.now a.bit in
-    let l = halving.less in
-    (omega arith, (halving.fair, (c.requires.stands, (c.requires.wide, ((omega arith, omega arith), second_ready blocks c.requires.ready_numbered c.write_block-block.ensures)))))
+    let i = listing c.requires.stands c.requires.wide c.checked_div2.ensures c.in-Some.is c.get-n.ensures c.width.ensures in
+    let w = i.wide in
+    let l = i.less in
+    (omega arith, (c.requires.stands, (c.requires.wide, ((omega arith, omega arith), second_ready (i.blocks a.frame.now a.bit) c.requires.ready_numbered c.write_block-block.ensures))))
 
 pub write_list-overflow_add-result : goal.write_list-overflow_add-result
 write_list-overflow_add-result t c = let a = c.args in
-    let element = c.width.ensures ∙ c.requires.wide.right a.level a.at c.requires.stands in
-    let halving = list_more a.level a.table.now.ty.now a.at c.requires.fair_bound (sym c.in-Some.is ∙ c.checked_div2.ensures) in
-    let blocks = halved_blocks halving c.get-n.ensures element a.frame.now a.bit in
-    let m = listed_below a.level a.table.now.ty.now a.at a.frame.now a.bit _ c.requires.fair_bound (list_placed blocks c.requires.ready_numbered c.write_block-block.ensures c.write_list-others.ensures).there in
-    let b = bound_small c.requires.fair_bound in
+    let i = listing c.requires.stands c.requires.wide c.checked_div2.ensures c.in-Some.is c.get-n.ensures c.width.ensures in
+    let m = listed_below a.level a.table.now.ty.now a.at a.frame.now a.bit _ c.args.bound (list_placed (i.blocks a.frame.now a.bit) c.requires.ready_numbered c.write_block-block.ensures c.write_list-others.ensures).there in
+    let b = bound_small c.args.bound in
     omega arith
 
 pub write_list-overflow_add-result-in-Some : goal.write_list-overflow_add-result-in-Some
 write_list-overflow_add-result-in-Some t c = let a = c.args in
-    let element = c.width.ensures ∙ c.requires.wide.right a.level a.at c.requires.stands in
-    let halving = list_more a.level a.table.now.ty.now a.at c.requires.fair_bound (sym c.in-Some.is ∙ c.checked_div2.ensures) in
-    let blocks = halved_blocks halving c.get-n.ensures element a.frame.now a.bit in
+    let i = listing c.requires.stands c.requires.wide c.checked_div2.ensures c.in-Some.is c.get-n.ensures c.width.ensures in
     let short : length a.out.now < 2 ^ 64 = search rules in
-    let l = lengths_fit blocks c.requires.ready_numbered c.write_block-block.ensures c.write_list-others.ensures in omega arith
+    let l = lengths_fit (i.blocks a.frame.now a.bit) c.requires.ready_numbered c.write_block-block.ensures c.write_list-others.ensures in omega arith
 
 pub write_list-returns-in-Some : goal.write_list-returns-in-Some
 write_list-returns-in-Some t c = let a = c.args in
-    let element = c.width.ensures ∙ c.requires.wide.right a.level a.at c.requires.stands in
-    let halving = list_more a.level a.table.now.ty.now a.at c.requires.fair_bound (sym c.in-Some.is ∙ c.checked_div2.ensures) in
-    let blocks = halved_blocks halving c.get-n.ensures element a.frame.now a.bit in
-    list_placed blocks c.requires.ready_numbered c.write_block-block.ensures c.write_list-others.ensures
+    let i = listing c.requires.stands c.requires.wide c.checked_div2.ensures c.in-Some.is c.get-n.ensures c.width.ensures in
+    list_placed (i.blocks a.frame.now a.bit) c.requires.ready_numbered c.write_block-block.ensures c.write_list-others.ensures
 
-pub write_record-bit_number-requires : goal.write_record-bit_number-requires
-write_record-bit_number-requires t c =
-    let i = as_boolean c.requires.stands c.head-h.ensures.0 c.head-h.ensures.1 c.form_of.ensures c.in-Bit.is in
+pub write_record-bit_at-requires : goal.write_record-bit_at-requires
+write_record-bit_at-requires t c =
+    let i = as_boolean c.requires.stands c.head-h.ensures.0 c.head-h.ensures.1 c.form.ensures c.in-Bit.is in
     let w = i.wide in
-    (omega arith, omega arith)
+    omega arith
 
 pub write_record-write_mark-requires : goal.write_record-write_mark-requires
 write_record-write_mark-requires t c =
-    let i = as_boolean c.requires.stands c.head-h.ensures.0 c.head-h.ensures.1 c.form_of.ensures c.in-Bit.is in
-    let a = c.args in let w = i.wide in let m = bit_below (tag_at a.frame.now a.bit) in let e = c.bit_number.ensures in record { in_bounds = one_room (i.same a.frame.now a.bit (omega arith)) c.requires.ready; fair = (c.head-h.ensures.1, i.marks _ (omega arith)) }
+    let i = as_boolean c.requires.stands c.head-h.ensures.0 c.head-h.ensures.1 c.form.ensures c.in-Bit.is in
+    let a = c.args in let w = i.wide in let m = bit_below (tag_at a.frame.now a.bit) in let e = bit_number_is c.from.ensures c.bit_at.ensures in record { in_bounds = one_room (i.same a.frame.now a.bit (omega arith)) c.requires.ready; fair = (c.head-h.ensures.1, i.marks _ (omega arith)) }
 
 pub write_record-write_mark-requires-in-Integer : goal.write_record-write_mark-requires-in-Integer
 write_record-write_mark-requires-in-Integer t c =
-    let i = as_integer c.requires.stands c.head-h.ensures.0 c.head-h.ensures.1 c.form_of.ensures c.in-Integer.is in
+    let i = as_integer c.requires.stands c.head-h.ensures.0 c.head-h.ensures.1 c.form.ensures c.in-Integer.is in
     let a = c.args in let w = i.wide in record { in_bounds = one_room (i.same a.frame.now a.bit (omega arith)) c.requires.ready; fair = (c.head-h.ensures.1, i.marks) }
 
 pub write_record-slice_bounds-uint_at-end : goal.write_record-slice_bounds-uint_at-end
 write_record-slice_bounds-uint_at-end t c =
-    let i = as_integer c.requires.stands c.head-h.ensures.0 c.head-h.ensures.1 c.form_of.ensures c.in-Integer.is in
+    let i = as_integer c.requires.stands c.head-h.ensures.0 c.head-h.ensures.1 c.form.ensures c.in-Integer.is in
     let a = c.args in
     let w = i.wide in
     let e = i.same a.frame.now a.bit (omega arith) in
@@ -178,7 +161,7 @@ write_record-slice_bounds-uint_at-end t c =
 
 pub write_record-uint_at-requires : goal.write_record-uint_at-requires
 write_record-uint_at-requires t c =
-    let i = as_integer c.requires.stands c.head-h.ensures.0 c.head-h.ensures.1 c.form_of.ensures c.in-Integer.is in
+    let i = as_integer c.requires.stands c.head-h.ensures.0 c.head-h.ensures.1 c.form.ensures c.in-Integer.is in
     let a = c.args in
     let w = i.wide in
     let e = i.same a.frame.now a.bit (omega arith) in
@@ -194,17 +177,17 @@ write_record-overflow_sub-level t c = level_some c.requires.stands
 
 pub write_record-slice_bounds-write_row-count : goal.write_record-slice_bounds-write_row-count
 write_record-slice_bounds-write_row-count t c = let a = c.args in
-    let i = as_product c.requires.stands c.head-h.ensures.0 c.head-h.ensures.1 c.form_of.ensures c.in-Product.is in
+    let i = as_product c.requires.stands c.head-h.ensures.0 c.head-h.ensures.1 c.form.ensures c.in-Product.is in
     marked_room (i.same a.frame.now a.bit) c.requires.ready
 
 pub write_record-slice_bounds-write_row-start : goal.write_record-slice_bounds-write_row-start
 write_record-slice_bounds-write_row-start t c = let a = c.args in
-    let i = as_product c.requires.stands c.head-h.ensures.0 c.head-h.ensures.1 c.form_of.ensures c.in-Product.is in
+    let i = as_product c.requires.stands c.head-h.ensures.0 c.head-h.ensures.1 c.form.ensures c.in-Product.is in
     marked_room (i.same a.frame.now a.bit) c.requires.ready
 
 pub write_record-write_row-k-requires : goal.write_record-write_row-k-requires
 write_record-write_row-k-requires t c =
-    let i = as_product c.requires.stands c.head-h.ensures.0 c.head-h.ensures.1 c.form_of.ensures c.in-Product.is in
+    let i = as_product c.requires.stands c.head-h.ensures.0 c.head-h.ensures.1 c.form.ensures c.in-Product.is in
     let a = c.args in
     let w = i.wide in
     let d = level_some c.requires.stands in
@@ -212,12 +195,12 @@ write_record-write_row-k-requires t c =
 
 pub write_record-write_mark-requires-in-Product : goal.write_record-write_mark-requires-in-Product
 write_record-write_mark-requires-in-Product t c =
-    let i = as_product c.requires.stands c.head-h.ensures.0 c.head-h.ensures.1 c.form_of.ensures c.in-Product.is in
+    let i = as_product c.requires.stands c.head-h.ensures.0 c.head-h.ensures.1 c.form.ensures c.in-Product.is in
     let a = c.args in let e = i.same a.frame.now a.bit in let l = marked_room e c.requires.ready in let m = marked_length e c.requires.ready c.write_row-k.ensures in record { in_bounds = omega arith; fair = (c.head-h.ensures.1, i.marks) }
 
 pub write_record-overflow_add-result : goal.write_record-overflow_add-result
 write_record-overflow_add-result t c = let a = c.args in
-    let i = as_product c.requires.stands c.head-h.ensures.0 c.head-h.ensures.1 c.form_of.ensures c.in-Product.is in
+    let i = as_product c.requires.stands c.head-h.ensures.0 c.head-h.ensures.1 c.form.ensures c.in-Product.is in
     let short : length a.out.now < 2 ^ 64 = search rules in
     let l = marked_small (i.same a.frame.now a.bit) c.requires.ready c.write_row-k.ensures in
     omega arith
@@ -227,7 +210,7 @@ write_record-overflow_add-at-in-Sum t c = let l = next_fits c.requires.stands (l
 
 pub write_record-find_choice-choice-requires : goal.write_record-find_choice-choice-requires
 write_record-find_choice-choice-requires t c =
-    let i = as_sum c.requires.stands c.head-h.ensures.0 c.head-h.ensures.1 c.form_of.ensures c.in-Sum.is in
+    let i = as_sum c.requires.stands c.head-h.ensures.0 c.head-h.ensures.1 c.form.ensures c.in-Sum.is in
     let w = i.tags in record { le_n = (i.some_choice, i.few); hops = i.hopping; inside = (omega arith, omega arith) }
 
 pub write_record-overflow_sub-level-in-Sum : goal.write_record-overflow_sub-level-in-Sum
@@ -235,17 +218,17 @@ write_record-overflow_sub-level-in-Sum t c = level_some c.requires.stands
 
 pub write_record-slice_bounds-write_record-count : goal.write_record-slice_bounds-write_record-count
 write_record-slice_bounds-write_record-count t c = let a = c.args in
-    let i = as_sum c.requires.stands c.head-h.ensures.0 c.head-h.ensures.1 c.form_of.ensures c.in-Sum.is in
+    let i = as_sum c.requires.stands c.head-h.ensures.0 c.head-h.ensures.1 c.form.ensures c.in-Sum.is in
     marked_room (i.choice a.frame.now a.bit c.requires.inside.0 _ c.find_choice-choice.ensures).same c.requires.ready
 
 pub write_record-slice_bounds-write_record-start : goal.write_record-slice_bounds-write_record-start
 write_record-slice_bounds-write_record-start t c = let a = c.args in
-    let i = as_sum c.requires.stands c.head-h.ensures.0 c.head-h.ensures.1 c.form_of.ensures c.in-Sum.is in
+    let i = as_sum c.requires.stands c.head-h.ensures.0 c.head-h.ensures.1 c.form.ensures c.in-Sum.is in
     marked_room (i.choice a.frame.now a.bit c.requires.inside.0 _ c.find_choice-choice.ensures).same c.requires.ready
 
 pub write_record-write_record-k-requires : goal.write_record-write_record-k-requires
 write_record-write_record-k-requires t c = let a = c.args in
-    let i = as_sum c.requires.stands c.head-h.ensures.0 c.head-h.ensures.1 c.form_of.ensures c.in-Sum.is in
+    let i = as_sum c.requires.stands c.head-h.ensures.0 c.head-h.ensures.1 c.form.ensures c.in-Sum.is in
     let x = i.choice a.frame.now a.bit c.requires.inside.0 _ c.find_choice-choice.ensures in
     let w = x.fits in
     let d = level_some c.requires.stands in
@@ -253,12 +236,12 @@ write_record-write_record-k-requires t c = let a = c.args in
 
 pub write_record-write_mark-requires-in-Sum : goal.write_record-write_mark-requires-in-Sum
 write_record-write_mark-requires-in-Sum t c = let a = c.args in
-    let i = as_sum c.requires.stands c.head-h.ensures.0 c.head-h.ensures.1 c.form_of.ensures c.in-Sum.is in
+    let i = as_sum c.requires.stands c.head-h.ensures.0 c.head-h.ensures.1 c.form.ensures c.in-Sum.is in
     let x = i.choice a.frame.now a.bit c.requires.inside.0 _ c.find_choice-choice.ensures in let l = marked_room x.same c.requires.ready in let m = marked_length x.same c.requires.ready c.write_record-k.ensures in record { in_bounds = omega arith; fair = (c.head-h.ensures.1, x.marks) }
 
 pub write_record-overflow_add-result-in-Sum : goal.write_record-overflow_add-result-in-Sum
 write_record-overflow_add-result-in-Sum t c = let a = c.args in
-    let i = as_sum c.requires.stands c.head-h.ensures.0 c.head-h.ensures.1 c.form_of.ensures c.in-Sum.is in
+    let i = as_sum c.requires.stands c.head-h.ensures.0 c.head-h.ensures.1 c.form.ensures c.in-Sum.is in
     let short : length a.out.now < 2 ^ 64 = search rules in
     let l = marked_small (i.choice a.frame.now a.bit c.requires.inside.0 _ c.find_choice-choice.ensures).same c.requires.ready c.write_record-k.ensures in
     omega arith
@@ -271,30 +254,30 @@ write_record-overflow_sub-level-in-List t c = level_some c.requires.stands
 
 pub write_record-slice_bounds-write_list-count : goal.write_record-slice_bounds-write_list-count
 write_record-slice_bounds-write_list-count t c = let a = c.args in
-    let i = as_list c.requires.stands c.head-h.ensures.0 c.head-h.ensures.1 c.form_of.ensures c.in-List.is in
+    let i = as_list c.requires.stands c.head-h.ensures.0 c.head-h.ensures.1 c.form.ensures c.in-List.is in
     numbered_room (i.same a.frame.now a.bit c.requires.inside.0) c.requires.ready
 
 pub write_record-slice_bounds-write_list-start : goal.write_record-slice_bounds-write_list-start
 write_record-slice_bounds-write_list-start t c = let a = c.args in
-    let i = as_list c.requires.stands c.head-h.ensures.0 c.head-h.ensures.1 c.form_of.ensures c.in-List.is in
+    let i = as_list c.requires.stands c.head-h.ensures.0 c.head-h.ensures.1 c.form.ensures c.in-List.is in
     numbered_room (i.same a.frame.now a.bit c.requires.inside.0) c.requires.ready
 
 pub write_record-write_list-list-requires : goal.write_record-write_list-list-requires
 write_record-write_list-list-requires t c = let a = c.args in
-    let i = as_list c.requires.stands c.head-h.ensures.0 c.head-h.ensures.1 c.form_of.ensures c.in-List.is in
+    let i = as_list c.requires.stands c.head-h.ensures.0 c.head-h.ensures.1 c.form.ensures c.in-List.is in
     let w = i.wide in
-    let b = bound_small i.fair in
+    let b = bound_small c.in-List.bound in
     let d = level_some c.requires.stands in
-    (omega arith, (i.fair, (i.given, (c.requires.wide, ((omega arith, omega arith), numbered_ready (i.same a.frame.now a.bit c.requires.inside.0) c.requires.ready)))))
+    (omega arith, (i.given, (c.requires.wide, ((omega arith, omega arith), numbered_ready (i.same a.frame.now a.bit c.requires.inside.0) c.requires.ready))))
 
 pub write_record-write_mark-requires-in-List : goal.write_record-write_mark-requires-in-List
 write_record-write_mark-requires-in-List t c =
-    let i = as_list c.requires.stands c.head-h.ensures.0 c.head-h.ensures.1 c.form_of.ensures c.in-List.is in
-    let a = c.args in let e = i.same a.frame.now a.bit c.requires.inside.0 in let l = numbered_room e c.requires.ready in let m = numbered_length e c.requires.ready c.write_list-list.ensures in record { in_bounds = omega arith; fair = (c.head-h.ensures.1, i.marks _ (listed_below (a.level - 1) a.table.now.ty.now (a.at + 1) a.frame.now a.bit _ i.fair c.write_list-list.ensures.there)) }
+    let i = as_list c.requires.stands c.head-h.ensures.0 c.head-h.ensures.1 c.form.ensures c.in-List.is in
+    let a = c.args in let e = i.same a.frame.now a.bit c.requires.inside.0 in let l = numbered_room e c.requires.ready in let m = numbered_length e c.requires.ready c.write_list-list.ensures in record { in_bounds = omega arith; fair = (c.head-h.ensures.1, i.marks _ (listed_below (a.level - 1) a.table.now.ty.now (a.at + 1) a.frame.now a.bit _ c.in-List.bound c.write_list-list.ensures.there)) }
 
 pub write_record-overflow_add-result-in-List : goal.write_record-overflow_add-result-in-List
 write_record-overflow_add-result-in-List t c = let a = c.args in
-    let i = as_list c.requires.stands c.head-h.ensures.0 c.head-h.ensures.1 c.form_of.ensures c.in-List.is in
+    let i = as_list c.requires.stands c.head-h.ensures.0 c.head-h.ensures.1 c.form.ensures c.in-List.is in
     let short : length a.out.now < 2 ^ 64 = search rules in
     let l = numbered_small (i.same a.frame.now a.bit c.requires.inside.0) c.requires.ready c.write_list-list.ensures in
     omega arith
@@ -307,7 +290,7 @@ write_record-overflow_sub-level-in-Payload t c = level_some c.requires.stands
 
 pub write_record-write_row-requires : goal.write_record-write_row-requires
 write_record-write_row-requires t c =
-    let i = as_payload c.requires.stands c.head-h.ensures.0 c.head-h.ensures.1 c.form_of.ensures c.in-Payload.is in
+    let i = as_payload c.requires.stands c.head-h.ensures.0 c.head-h.ensures.1 c.form.ensures c.in-Payload.is in
     let a = c.args in
     let w = i.wide in
     let d = level_some c.requires.stands in
@@ -315,41 +298,41 @@ write_record-write_row-requires t c =
 
 pub write_record-returns-in-Nothing : goal.write_record-returns-in-Nothing
 write_record-returns-in-Nothing t c = let a = c.args in
-    let nothing = as_nothing c.requires.stands c.head-h.ensures.0 c.head-h.ensures.1 c.form_of.ensures c.in-Nothing.is in
+    let nothing = as_nothing c.requires.stands c.head-h.ensures.0 c.head-h.ensures.1 c.form.ensures c.in-Nothing.is in
     absurd (nothing_there (nothing.same a.frame.now a.bit) c.requires.ready)
 
 pub write_record-returns-in-Bit : goal.write_record-returns-in-Bit
 write_record-returns-in-Bit t c =
-    let i = as_boolean c.requires.stands c.head-h.ensures.0 c.head-h.ensures.1 c.form_of.ensures c.in-Bit.is in
+    let i = as_boolean c.requires.stands c.head-h.ensures.0 c.head-h.ensures.1 c.form.ensures c.in-Bit.is in
     let a = c.args in
     let w = i.wide in
-    one_placed (i.same a.frame.now a.bit (omega arith)) c.requires.ready (c.write_mark.ensures ∙ ap (λ j. put (bytes (mark_of c.head-h.result j)) a.out.now) c.bit_number.ensures)
+    one_placed (i.same a.frame.now a.bit (omega arith)) c.requires.ready (c.write_mark.ensures ∙ ap (λ j. put (bytes (mark_of c.head-h.result j)) a.out.now) (bit_number_is c.from.ensures c.bit_at.ensures))
 
 pub write_record-returns-in-Integer : goal.write_record-returns-in-Integer
 write_record-returns-in-Integer t c =
-    let i = as_integer c.requires.stands c.head-h.ensures.0 c.head-h.ensures.1 c.form_of.ensures c.in-Integer.is in
+    let i = as_integer c.requires.stands c.head-h.ensures.0 c.head-h.ensures.1 c.form.ensures c.in-Integer.is in
     let a = c.args in
     let w = i.wide in
     integer_placed (i.same a.frame.now a.bit (omega arith)) c.requires.ready (c.write_mark-in-Integer.ensures ∙ ap (λ r. put (bytes r) a.out.now) i.mark) c.uint_at.ensures
 
 pub write_record-returns-in-Product : goal.write_record-returns-in-Product
 write_record-returns-in-Product t c = let a = c.args in
-    let i = as_product c.requires.stands c.head-h.ensures.0 c.head-h.ensures.1 c.form_of.ensures c.in-Product.is in
+    let i = as_product c.requires.stands c.head-h.ensures.0 c.head-h.ensures.1 c.form.ensures c.in-Product.is in
     marked_placed (i.same a.frame.now a.bit) c.requires.ready c.write_row-k.ensures c.write_mark-in-Product.ensures
 
 pub write_record-returns-in-Sum : goal.write_record-returns-in-Sum
 write_record-returns-in-Sum t c = let a = c.args in
-    let i = as_sum c.requires.stands c.head-h.ensures.0 c.head-h.ensures.1 c.form_of.ensures c.in-Sum.is in
+    let i = as_sum c.requires.stands c.head-h.ensures.0 c.head-h.ensures.1 c.form.ensures c.in-Sum.is in
     marked_placed (i.choice a.frame.now a.bit c.requires.inside.0 _ c.find_choice-choice.ensures).same c.requires.ready c.write_record-k.ensures c.write_mark-in-Sum.ensures
 
 pub write_record-returns-in-List : goal.write_record-returns-in-List
 write_record-returns-in-List t c = let a = c.args in
-    let i = as_list c.requires.stands c.head-h.ensures.0 c.head-h.ensures.1 c.form_of.ensures c.in-List.is in
+    let i = as_list c.requires.stands c.head-h.ensures.0 c.head-h.ensures.1 c.form.ensures c.in-List.is in
     numbered_placed (i.same a.frame.now a.bit c.requires.inside.0) c.requires.ready c.write_list-list.ensures c.write_mark-in-List.ensures
 
 pub write_record-returns-in-Payload : goal.write_record-returns-in-Payload
 write_record-returns-in-Payload t c = let a = c.args in
-    let i = as_payload c.requires.stands c.head-h.ensures.0 c.head-h.ensures.1 c.form_of.ensures c.in-Payload.is in
+    let i = as_payload c.requires.stands c.head-h.ensures.0 c.head-h.ensures.1 c.form.ensures c.in-Payload.is in
     placed_as (i.same a.frame.now a.bit) c.write_row.ensures
 
 pub write_row-loop-init : goal.write_row-loop-init

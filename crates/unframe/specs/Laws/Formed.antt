@@ -18,19 +18,19 @@ use Rattle.types.specs.declared.Head.{Head}
 use Rattle.types.specs.declared.Head.TheVariants.{Missing, Faulty, Never, Boolean, UInt, Either, Opt, Tuple, Array, Listed, Variants}
 use Rattle.types.specs.declared.Head.TheVariants as head
 use Rattle.types.specs.Record.{head_at}
-use Rattle.types.specs.Heads.{Fair, FairBound}
+use Rattle.types.specs.Heads.{Fair}
 use Rattle.types.specs.Steps.{given_inside}
 use Rattle.structural.specs.Forms.{Stands}
 use Rattle.structural.specs.Forms as structural
 use Rattle.structural.proofs.Laws.Forms as lowered
 use Rattle.bits.specs.Bits.{bits_at}
-use Rattle.told.specs.declared.Parts.{Parts}
-use Rattle.told.specs.declared.Parts.TheVariants.{Types}
+use Rattle.types.specs.declared.forms.Parts.{Parts}
+use Rattle.types.specs.declared.forms.Parts.TheVariants.{Types}
 use Rattle.told.specs.Forms.{GivenParts, Hops, hops}
 use Rattle.record.specs.Marks.{mark_of, Marks}
-use Rattle.record.specs.declared.Form.{Form}
-use Rattle.record.specs.declared.Form.TheVariants as form
-use Rattle.record.specs.Forms.{form_of}
+use Rattle.types.specs.declared.forms.Form.{Form}
+use Rattle.types.specs.declared.forms.Form.TheVariants as form
+use Rattle.types.specs.Forms.{form_of}
 use Rattle.record.specs.Trees.{part, product, elements, numbered, bit_row, sum}
 use Rattle.record.specs.Laws.Formed.{NothingRead, BitRead, IntegerRead, ProductRead, SumRead, ListRead, PayloadRead}
 use Rattle.record.specs.Laws.Formed as trees
@@ -94,10 +94,9 @@ pub record SumFramed (h : Head) (n d : ℕ) (s E : List ℕ) (p : ℕ) : Type 0 
 
 -- a list: its record, which says how many elements, and these behind it
 pub record ListFramed (h : Head) (b : NonZeroPow2Usize) (d : ℕ) (s E : List ℕ) (p : ℕ) : Type 0 where
-  pub fair : FairBound b
   pub given : Stands (d - 1) s E (p + 1)
   pub wide : width (structural.standing d s p) ≡ width (structural.listed (d - 1) s b (p + 1))
-  pub marks : (i : ℕ) → i < b.0 → Marks h i
+  pub marks : (i : ℕ) → i < b.value → Marks h i
   pub same : (fr : List ℕ) (bit : ℕ) → bit + width (structural.standing d s p) ≤ 8 * length fr → Counted (mark_of h) (standing d s p fr bit) (listed (d - 1) s b (p + 1) fr bit)
 
 -- a Variant's payload: n parts, and no record of its own
@@ -166,7 +165,6 @@ module _ {d : ℕ} {s : List ℕ} {p : ℕ} where
   unfolding standing
   list_framed {h} {E} {b} r e =
       record {
-        fair = r.fair;
         given = r.given;
         wide = ap width e;
         marks = r.marks;
@@ -210,7 +208,7 @@ formed Missing d s E p g e f = nothing_framed (trees.formed Missing d s E p g e 
 formed Faulty d s E p g e f = nothing_framed (trees.formed Faulty d s E p g e f)
 formed Never d s E p g e f = nothing_framed (trees.formed Never d s E p g e f)
 formed Boolean d s E p g e f = bit_framed (trees.formed Boolean d s E p g e f) ((lowered.formed g Boolean e f).same ∙ bits_product (d - 1) s 1 (p + 1) ∙ one_bit) (λ i l. omega arith) (λ i. refl)
-formed (UInt w) d s E p g e f = integer_framed (trees.formed (UInt w) d s E p g e f) ((lowered.formed g (UInt w) e f).same ∙ bits_product (d - 1) s w.0 (p + 1)) tt refl
+formed (UInt w) d s E p g e f = integer_framed (trees.formed (UInt w) d s E p g e f) ((lowered.formed g (UInt w) e f).same ∙ bits_product (d - 1) s w.value (p + 1)) tt refl
 formed Either d s E p g e f = sum_framed (trees.formed Either d s E p g e f) ((lowered.formed g Either e f).same ∙ choices_sum (d - 1) s 2 (p + 1))
 formed Opt d s E p g e f = list_framed (trees.formed Opt d s E p g e f) (lowered.formed g Opt e f).same
 formed (Tuple n) d s E p g e f = product_framed (trees.formed (Tuple n) d s E p g e f) ((lowered.formed g (Tuple n) e f).same ∙ types_product (d - 1) s n (p + 1))

@@ -5,20 +5,20 @@ use Rattle.std.proofs.Math.Path.{ap}
 use Rattle.std.proofs.Math.Bool.{true, false}
 use mathlib.Core.List.{List, [], append-nil}
 use Rattle.std.proofs.Math.Option.{Option, none, some, some-injective}
-use Rattle.std.proofs.Math.Nat.{two-pow-succ, one-le-pow}
+use Rattle.std.proofs.Math.Nat.{two-pow-succ}
 use Rattle.num.specs.declared.NonZeroPow2Usize.{NonZeroPow2Usize}
-use Rattle.num.specs.Powers.{bound, bound_log2, half_bound}
-use Rattle.num.specs.Laws.{bounded, bound_power, half_bound_two, half_bound_more}
+use Rattle.num.specs.Powers.{bound_log2, half_bound}
+use Rattle.num.specs.Laws.{no_half, HalfOf, half_of}
 use Rattle.model.specs.Structural.{block_type}
 use Rattle.model.specs.ValueFiles.{Rec}
 use Rattle.model.specs.Frames.{width}
 use Rattle.model.proofs.Laws.Options.{bind_o_some, map_o_some}
 use Rattle.model.proofs.Laws.Sizes.{width_block, width_partition_zero, width_partition_suc}
-use Rattle.types.specs.Heads.{FairBound}
+use Rattle.types.specs.Heads.{fair_bound_of}
 use Rattle.structural.specs.Forms as structural
 use Rattle.structural.proofs.Laws.Bounds.{Power, power_of}
-use Rattle.told.specs.declared.Parts.{Parts}
-use Rattle.told.specs.declared.Parts.TheVariants.{Copies}
+use Rattle.types.specs.declared.forms.Parts.{Parts}
+use Rattle.types.specs.declared.forms.Parts.TheVariants.{Copies}
 use Rattle.record.specs.Trees.{numbered}
 use Rattle.accept.specs.Forms.{tag_at}
 use Rattle.unframe.specs.Forms.{standing, both, row, block, both_numbered, blocks, listed}
@@ -64,53 +64,38 @@ blocks_below d s (suc e) p fr bit y h =
     let (b, j, g) = map_o_some _ (blocks d s e p fr (bit + 1 + 2 ^ suc e * width (structural.standing d s p))) y f in
     omega (arith, block_below d s (2 ^ suc e) p fr bit a i, blocks_below d s e p fr (bit + 1 + 2 ^ suc e * width (structural.standing d s p)) b j, ap (λ (y : ℕ × List Rec). y.0) g, two-pow-succ (suc e))
 
-pub listed_below : {b : NonZeroPow2Usize} (d : ℕ) (s : List ℕ) (p : ℕ) (fr : List ℕ) (bit : ℕ) (y : ℕ × List Rec) → FairBound b → listed d s b p fr bit ≡ some y → y.0 < b.0
+pub listed_below : (d : ℕ) (s : List ℕ) (p : ℕ) (fr : List ℕ) (bit : ℕ) (y : ℕ × List Rec) (b : NonZeroPow2Usize) → listed d s b p fr bit ≡ some y → y.0 < b.value
 unfolding listed
-listed_below {b} d s p fr bit y f h =
-    let k = power_of f in
-    let e : suc (bound_log2 b.0 - 1) ≡ suc f.exponent = omega (arith, k.log2) in
-    rw (k.power, ← e) (blocks_below d s (bound_log2 b.0 - 1) p fr bit y h)
+listed_below d s p fr bit y b h =
+    let f = fair_bound_of b in
+    let k = power_of b in
+    let e : suc (bound_log2 b.value - 1) ≡ suc f.exponent = omega (arith, k.log2) in
+    rw (k.power, ← e) (blocks_below d s (bound_log2 b.value - 1) p fr bit y h)
 
 -- with the bound 2 a list is a block of 1
 pub record Two (b : NonZeroPow2Usize) (d : ℕ) (s : List ℕ) (p : ℕ) : Type 0 where
   pub wide : width (structural.listed d s b p) ≡ width (block_type 1 (structural.standing d s p))
   pub same : (fr : List ℕ) (bit : ℕ) → listed d s b p fr bit ≡ block d s 1 p fr bit
 
-pub list_two : {b : NonZeroPow2Usize} (d : ℕ) (s : List ℕ) (p : ℕ) → FairBound b → None ≡ half_bound b.0 → Two b d s p
+pub list_two : {b : NonZeroPow2Usize} (d : ℕ) (s : List ℕ) (p : ℕ) → None ≡ half_bound b → Two b d s p
 unfolding listed blocks structural.listed
-list_two {b} d s p f h = go f.exponent (power_of f)
-  where
-    go : (e : ℕ) → Power b e → Two b d s p
-    go zero k = record { wide = rw k.log2 (omega (arith, width_partition_zero (structural.standing d s p), width_block 1 (structural.standing d s p))); same = λ fr bit. ap (λ m. blocks d s (m - 1) p fr bit) k.log2 }
-    go (suc e) k =
-        let m = ap half_bound k.power in
-        let o = half_bound_more e in
-        let z : ◌≡◌ {A = ℕ} 0 1 = cc in absurd (omega arith)
+list_two d s p h =
+    let k = no_half h in
+    record { wide = rw k.log2 (omega (arith, width_partition_zero (structural.standing d s p), width_block 1 (structural.standing d s p))); same = λ fr bit. ap (λ m. blocks d s (m - 1) p fr bit) k.log2 }
 
 -- with a larger one it is a block of the half, and the list with that bound
 pub record Halved (b h : NonZeroPow2Usize) (d : ℕ) (s : List ℕ) (p : ℕ) : Type 0 where
-  pub fair : FairBound h
-  pub less : h.0 < b.0
-  pub wide : width (structural.listed d s b p) ≡ suc (h.0 * width (structural.standing d s p)) + width (structural.listed d s h p)
-  pub same : (fr : List ℕ) (bit : ℕ) → listed d s b p fr bit ≡ both_numbered (block d s h.0 p fr bit) (listed d s h p fr (bit + 1 + h.0 * width (structural.standing d s p)))
+  pub less : h.value < b.value
+  pub wide : width (structural.listed d s b p) ≡ suc (h.value * width (structural.standing d s p)) + width (structural.listed d s h p)
+  pub same : (fr : List ℕ) (bit : ℕ) → listed d s b p fr bit ≡ both_numbered (block d s h.value p fr bit) (listed d s h p fr (bit + 1 + h.value * width (structural.standing d s p)))
 
-pub list_more : {b h : NonZeroPow2Usize} (d : ℕ) (s : List ℕ) (p : ℕ) → FairBound b → Some h ≡ half_bound b.0 → Halved b h d s p
+pub list_more : {b h : NonZeroPow2Usize} (d : ℕ) (s : List ℕ) (p : ℕ) → Some h ≡ half_bound b → Halved b h d s p
 unfolding listed blocks structural.listed
-list_more {b} {h} d s p f q = go f.exponent (power_of f)
+list_more {b} {h} d s p q = go (half_of q)
   where
-    go : (e : ℕ) → Power b e → Halved b h d s p
-    go zero k =
-        let m = ap half_bound k.power in
-        let o = half_bound_two in
-        let z : ◌≡◌ {A = ℕ} 0 1 = cc in absurd (omega arith)
-    go (suc e) k =
-        let m = ap half_bound k.power in
-        let o = half_bound_more e in
-        let i : h ≡ bound (2 ^ suc e) = cc in
-        let a = bound_power e (omega arith) in
-        rw i (record {
-          fair = record { exponent = e; admitted = a };
-          less = omega (arith, k.power, two-pow-succ (suc e), one-le-pow (suc e) 2 (omega arith));
-          wide = rw (k.log2, (bounded (2 ^ suc e) e a).log2, sub-one, sub-one) (width_partition_suc e (structural.standing d s p));
-          same = λ fr bit. rw (k.log2, (bounded (2 ^ suc e) e a).log2, sub-one, sub-one) refl;
-        })
+    go : HalfOf b h → Halved b h d s p
+    go k = record {
+      less = k.less;
+      wide = rw (k.log2_twice, k.log2, k.power, sub-one, sub-one) (width_partition_suc k.exponent (structural.standing d s p));
+      same = λ fr bit. rw (k.log2_twice, k.log2, k.power, sub-one, sub-one) refl;
+    }

@@ -16,8 +16,8 @@ use Rattle.model.specs.ValueFiles.{Rec}
 use Rattle.model.specs.Frames.{width}
 use Rattle.model.proofs.Laws.Sizes.{width_block}
 use Rattle.structural.specs.Forms as structural
-use Rattle.told.specs.declared.Parts.{Parts}
-use Rattle.told.specs.declared.Parts.TheVariants.{Copies}
+use Rattle.types.specs.declared.forms.Parts.{Parts}
+use Rattle.types.specs.declared.forms.Parts.TheVariants.{Copies}
 use Rattle.told.specs.Forms.{after}
 use Rattle.record.specs.Trees.{part, product, elements, numbered}
 use Rattle.record.specs.Trees as trees
@@ -101,5 +101,5 @@ module _ (d : ℕ) (s : List ℕ) (p : ℕ) where
   pub elements_listed : (b : NonZeroPow2Usize) (fr : List ℕ) (bit : ℕ) → bit + width (structural.listed d s b p) ≤ 8 * length fr → elements d s b p (shape_at (structural.listed d s b p) fr bit) ≡ listed d s b p fr bit
   unfolding elements listed structural.listed
   elements_listed b fr bit h =
-      let e = bound_log2 b.0 - 1 in
+      let e = bound_log2 b.value - 1 in
       ap (λ o. bind_o o copies) (list_shapes e (structural.standing d s p) fr bit h) ∙ blocks_copies e fr bit

@@ -4,7 +4,7 @@ use borrow.Author.Rules.{rules}
 use Rattle.types.specs.Entries.{ends}
 use Rattle.structural.proofs.Laws.Bounds.{bound_small}
 use Rattle.structural.proofs.Laws.Forms.{level_some, next_fits, stands_inside}
-use Rattle.told.specs.declared.Parts.TheVariants.{Types}
+use Rattle.types.specs.declared.forms.Parts.TheVariants.{Types}
 use Rattle.told.specs.Laws.Rows.{given_copies}
 use Rattle.frame.proofs.Laws.Lists.{share_all}
 use Rattle.frame.proofs.Laws.Writing.{fitted_as, framed_as}
@@ -34,7 +34,7 @@ payload t c = as_payload _ _ c.requires.stands c.requires.fitted c.head.ensures.
 
 -- half of a list's bound
 halved : (t : ℕ) (c : list-After-share-k t) → Half c.args.bound c.in-Some.half c.args.m c.get-n.result c.share-k.result
-halved t c = half _ _ _ c.requires.fair_bound.0 c.requires.fair_bound.1 c.checked_div2.ensures c.in-Some.is c.get-n.ensures c.share-k.ensures
+halved t c = half _ _ _ c.requires.few c.checked_div2.ensures c.in-Some.is c.get-n.ensures c.share-k.ensures
 
 pub block-set_bit-requires : goal.block-set_bit-requires
 block-set_bit-requires t c = (empty_here _ _ _ _ _ _ _ _ _ c.requires.stands c.args.self.now.wide c.requires.fitted c.if-m-eq0.true).0
@@ -70,7 +70,7 @@ pub block-returns : goal.block-returns
 block-returns t c = full_done _ _ _ _ _ _ _ _ _ c.requires.stands c.args.self.now.wide c.requires.fitted c.if-m-eq0.false c.requires.fact c.set_bit-2.ensures c.row.ensures
 
 pub list-block-requires : goal.list-block-requires
-list-block-requires t c = (omega arith, (one_share _ c.requires.fair_bound.0 c.requires.fair_bound.1 c.checked_div2.ensures c.in-None.is, (c.requires.stands, fitted_as (one_block _ c.requires.fair_bound.0 c.requires.fair_bound.1 c.checked_div2.ensures c.in-None.is _ _ _ _ _) c.requires.fitted)))
+list-block-requires t c = (omega arith, (one_share _ c.args.bound c.requires.few c.checked_div2.ensures c.in-None.is, (c.requires.stands, fitted_as (one_block _ c.args.bound c.requires.few c.checked_div2.ensures c.in-None.is _ _ _ _ _) c.requires.fitted)))
 
 pub list-block-here-requires : goal.list-block-here-requires
 list-block-here-requires t c =
@@ -87,10 +87,10 @@ list-list-requires t c =
     let b = halved t (goal.at.list-list-requires t c).After-share-k in
     let h = b in
     let l = h.less in
-    (omega arith, ((h.fair, h.others), (c.requires.stands, half_rest h _ _ _ _ _ c.requires.fitted c.block-here.ensures)))
+    (omega arith, (h.others, (c.requires.stands, half_rest h _ _ _ _ _ c.requires.fitted c.block-here.ensures)))
 
 pub list-returns-in-None : goal.list-returns-in-None
-list-returns-in-None t c = framed_as (one_block _ c.requires.fair_bound.0 c.requires.fair_bound.1 c.checked_div2.ensures c.in-None.is _ _ _ _ _) c.block.ensures
+list-returns-in-None t c = framed_as (one_block _ c.args.bound c.requires.few c.checked_div2.ensures c.in-None.is _ _ _ _ _) c.block.ensures
 
 pub list-returns-in-Some : goal.list-returns-in-Some
 list-returns-in-Some t c =
@@ -171,8 +171,8 @@ pub record-list-requires : goal.record-list-requires
 record-list-requires t c =
     let b = listed t (goal.at.record-list-requires t c).In-List in
     let l = level_some c.requires.stands in
-    let m = bound_small b.fair in
-    (omega arith, ((b.fair, b.less), (b.given, fitted_as b.same c.requires.fitted)))
+    let m = bound_small c.in-List.bound in
+    (omega arith, (b.less, (b.given, fitted_as b.same c.requires.fitted)))
 
 pub record-overflow_add-at-in-Payload : goal.record-overflow_add-at-in-Payload
 record-overflow_add-at-in-Payload t c = search steps

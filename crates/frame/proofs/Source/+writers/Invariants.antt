@@ -18,7 +18,7 @@ abbrev pub decreases-block : goal.decreases-block
 decreases-block l = l.level * 2 ^ 17 + 2
 
 abbrev pub decreases-list : goal.decreases-list
-decreases-list l = l.level * 2 ^ 17 + l.bound.0 + 3
+decreases-list l = l.level * 2 ^ 17 + l.bound.value + 3
 
 abbrev pub decreases-record : goal.decreases-record
 decreases-record l = l.level * 2 ^ 17

@@ -1,14 +1,9 @@
--- Each answer is the one that the definition takes by the same test.
-use Prim.Native.Nat.{◌/◌}
-use native.Mathlib.Omega.{arith}
-use borrow.Author.Tests.{lt-ltb, le-ltb}
-use Rattle.num.specs.Powers.{half_bound}
+-- Each answer is what the half's number is admitted as.
+use Rattle.num.specs.Laws.{half_none, half_some}
 use Rattle.num.proofs.NonZeroPow2Usize.checked_div2.Goals as goal
 
 pub returns-then-half-lt2 : goal.returns-then-half-lt2
-unfolding half_bound
-returns-then-half-lt2 c = rw (lt-ltb (c.args.self.0 / 2) 2 (omega arith))
+returns-then-half-lt2 c = half_none c.args.self c.if-half-lt2.true
 
 pub returns : goal.returns
-unfolding half_bound
-returns c = rw (le-ltb (c.args.self.0 / 2) 2 (omega arith))
+returns c = half_some c.args.self _

@@ -1,10 +1,6 @@
--- The exponent that was found is the bound's logarithm.
-use mathlib.Core.Path.{sym, ◌∙◌}
-use Rattle.num.specs.Laws.{bound_log2_by}
+-- A bound's logarithm is the k with 2 ^ k <= bound < 2 ^ (k + 1).
+use Rattle.num.specs.Laws.{log2_is}
 use Rattle.num.proofs.NonZeroPow2Usize.log2.Goals as goal
 
-pub returns-in-Some : goal.returns-in-Some
-returns-in-Some c = bound_log2_by _ _ (sym c.in-Some.is ∙ c.exponent.ensures)
-
-pub returns-in-None : goal.returns-in-None
-returns-in-None c = bound_log2_by _ _ (sym c.in-None.is ∙ c.exponent.ensures)
+pub returns : goal.returns
+returns c = log2_is c.args.self _ c.ilog2.ensures.power_le c.ilog2.ensures.next_power_gt

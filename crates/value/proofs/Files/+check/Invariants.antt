@@ -10,12 +10,12 @@ use Rattle.value.proofs.Files.+check.Given as goal
 
 abbrev pub invariant-check_parts-loop : goal.invariant-check_parts-loop
 invariant-check_parts-loop l = record {
-  rest : checks (kids (tree l.level l.self.ty.now) (walk l.level false l.self.ty.now) (l.n - l.counter) l.p) l.self.val.now l.e l.size ≡ parts (kids (tree l.level l.self.ty.now) (walk l.level false l.self.ty.now) l.n l.at) l.self.val.now l.v l.shape;
-  row : GivenRow l.level false l.self.ty.now (ends l.self.entries.now) (l.n - l.counter) l.p;
+  rest : checks (kids (tree l.level l.self.table.ty.now) (walk l.level false l.self.table.ty.now) (l.n - l.counter) l.p) l.self.val.now l.e l.size ≡ parts (kids (tree l.level l.self.table.ty.now) (walk l.level false l.self.table.ty.now) l.n l.at) l.self.val.now l.v l.shape;
+  row : GivenRow l.level false l.self.table.ty.now (ends l.self.table.entries.now) (l.n - l.counter) l.p;
 }
 
 abbrev pub invariant-check_run-loop : goal.invariant-check_run-loop
-invariant-check_run-loop l = run (check (tree l.level l.self.ty.now l.at) l.self.val.now) (l.n - l.counter) l.e l.size ≡ run (check (tree l.level l.self.ty.now l.at) l.self.val.now) l.n l.v l.shape
+invariant-check_run-loop l = run (check (tree l.level l.self.table.ty.now l.at) l.self.val.now) (l.n - l.counter) l.e l.size ≡ run (check (tree l.level l.self.table.ty.now l.at) l.self.val.now) l.n l.v l.shape
 
 abbrev pub decreases-check_parts : goal.decreases-check_parts
 decreases-check_parts l = l.level * 2 + 1

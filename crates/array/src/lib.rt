@@ -3,11 +3,22 @@
 
 ghost use Rattle.std.specs.Prelude.{◌≡◌, ◌≤◌};
 ghost use Rattle.model.specs.Balanced.{btree_split_index};
+ghost use Rattle.array.specs.Lefts.{left_sizes};
 ghost use Rattle.array.specs.Ends.{tree_end_of};
 
 use lefts::LEFT_SIZES;
 
 mod lefts;
+
+// The table of left sizes: entry n is what the left side of a tree of n parts has, 0 for none and for one.
+pub type Lefts = [u16; 1025];
+
+// The table, as it is read where a tree is split.
+pub fn left_sizes() -> &'static Lefts
+    ensures { result.now ≡ left_sizes }
+{
+    &LEFT_SIZES
+}
 
 // The most parts that the table has a left size for.
 const MOST_TABLED: usize = 1024;
@@ -18,7 +29,7 @@ pub fn btree_split_index(n: usize) -> usize
     ensures { result ≡ btree_split_index n }
 {
     if n <= MOST_TABLED {
-        return LEFT_SIZES[n] as usize;
+        return left_sizes()[n] as usize;
     }
     n - n.next_power_of_two() / 2
 }

@@ -2,10 +2,15 @@
 // The last four are of parts of which one lies within the other: there the order counts, or the second edit is refused. Prints the frame that each pair leaves, in hexadecimal.
 #![tactic(auto)]
 
+ghost use Rattle.std.specs.Prelude.{◌≤◌, IfSome, length};
+ghost use Rattle.io.specs.Counts.{IsPrefixLen};
+
 use files::read_into;
 use niegluk::{part_edit, part_read, write_frame};
+use reply::Refusal;
+use std::io;
 use std::rt::Files;
-use std::{fmt, io};
+use text::{write_hex, write_refused};
 
 // An edit of the job's frame: the file of a part's path, and that of the part's new value, or none for the value that is there.
 #[derive(Clone, Copy)]
@@ -47,22 +52,53 @@ const DENSITY: Edit = Edit {
     value: Some("density.val"),
 };
 
-// Writes the frame of the job in the current folder over the front of `frame`, and lends it: nothing where it is refused.
-fn job_frame<'a>(rt: &impl Files, ty: &[u8], frame: &'a mut [u8]) -> &'a mut [u8] {
+// Writes the frame of the job in the current folder over the front of `frame`, and answers its length; none where it is refused.
+fn write_job(rt: &impl Files, ty: &[u8], frame: &mut [u8]) -> Option<usize>
+    ensures { IfSome result (λ n. IsPrefixLen n frame.new) }
+{
     let mut value = [0u8; 1024];
     let value = read_into(rt, "job.val", &mut value);
     match write_frame(ty, value, frame) {
-        Ok(n) => &mut frame[..n],
-        Err(_) => &mut [],
+        Ok(n) => Some(n),
+        Err(_) => None,
     }
 }
 
-// Writes the value file of a part over the front of `value`, and lends it: nothing where it is refused.
-fn read_part<'a>(ty: &[u8], frame: &[u8], path: &[u8], value: &'a mut [u8]) -> &'a [u8] {
-    match part_read(ty, frame, path, value) {
-        Ok(n) => &value[..n],
-        Err(_) => &[],
+// As `write_job`, and lends the frame: nothing where it is refused.
+fn job_frame<'a>(rt: &impl Files, ty: &[u8], frame: &'a mut [u8]) -> &'a mut [u8]
+    ensures { length result.now ≤ length frame.old }
+{
+    match write_job(rt, ty, frame) {
+        Some(n) => &mut frame[..n],
+        None => &mut [],
     }
+}
+
+// Writes the value file of a part over the front of `value`, and answers its length; none where it is refused.
+fn write_part(ty: &[u8], frame: &[u8], path: &[u8], value: &mut [u8]) -> Option<usize>
+    ensures { IfSome result (λ n. IsPrefixLen n value.new) }
+{
+    match part_read(ty, frame, path, value) {
+        Ok(len) => Some(len),
+        Err(_) => None,
+    }
+}
+
+// As `write_part`, and lends the file: nothing where it is refused.
+fn read_part<'a>(ty: &[u8], frame: &[u8], path: &[u8], value: &'a mut [u8]) -> &'a [u8]
+    ensures { length result.now ≤ length value.old }
+{
+    match write_part(ty, frame, path, value) {
+        Some(n) => &value[..n],
+        None => &[],
+    }
+}
+
+// Prints the line of a refusal.
+fn show_refused(rt: &impl Print, x: Refusal) -> io::Result<()> {
+    let mut line = [0u8; 12];
+    let n = write_refused(x, &mut line);
+    rt.write_all(&line[..n])
 }
 
 // Makes an edit, and prints the line of a refusal.
@@ -76,21 +112,18 @@ fn apply(rt: &(impl Files + Print), edit: Edit, ty: &[u8], frame: &mut [u8]) -> 
     };
     match part_edit(ty, frame, path, value) {
         Ok(_) => Ok(()),
-        Err(x) => println!(rt; "refused {}", u32::from(x)),
+        Err(x) => show_refused(rt, x),
     }
 }
 
-// Shown as two hexadecimal digits a byte.
-#[derive(Clone, Copy)]
-struct Hex<'a>(&'a [u8]);
-
-impl fmt::Display for Hex<'_> {
-    fn fmt<W: fmt::Write>(&self, f: &mut fmt::Formatter<W>) -> fmt::Result {
-        for byte in self.0 {
-            write!(f, "{byte:02x}")?;
-        }
-        Ok(())
-    }
+// Prints a frame, two digits a byte. Its line is made in a buffer, since the clauses of `write_hex` say each byte of it.
+fn show(rt: &impl Print, frame: &[u8]) -> io::Result<()>
+    requires { length frame.now ≤ 4096 }
+{
+    let mut line = [0u8; 8192];
+    let n = write_hex(frame, &mut line);
+    rt.write_all(&line[..n])?;
+    println!(rt; "")
 }
 
 // Edits the job's frame, one edit after the other, and prints what they leave behind their name.
@@ -104,7 +137,7 @@ fn run(rt: &(impl Files + Print), name: &str, edits: &[Edit]) -> io::Result<()> 
     for &edit in edits {
         apply(rt, edit, ty, frame)?;
     }
-    println!(rt; "{}", Hex(frame))
+    show(rt, frame)
 }
 
 fn main(rt: HostRuntime) -> io::Result<()> {

@@ -1,8 +1,9 @@
 // What the program `clean` does in a folder. What it gives of the two files is made whole in a buffer, by the proved entry; the rest reads and writes.
 #![tactic(auto)]
 
-ghost use Rattle.std.specs.Prelude.{◌≡◌, ◌≤◌, IfOk, IfErr, MatchResult, true, false, length};
+ghost use Rattle.std.specs.Prelude.{◌≡◌, ◌≤◌, IfOk, IfErr, MatchResult, true, false, length, take};
 ghost use Rattle.model.specs.Operations.{cleaned_shape};
+ghost use Rattle.io.specs.Counts.{IsPrefixLen};
 ghost use Rattle.cleaner.specs.Gives.{given};
 
 use files::{read_into, records_into, write_file};
@@ -28,19 +29,29 @@ pub const HERE: Names<'static> = Names {
     part: "new.shape.part",
 };
 
-// Writes what `clean` gives of a type file and a shape file over the front of `out`, and lends it: the cleaned shape, or else, as the error, the line of the refusal.
+// Writes what `clean` gives of a type file and a shape file over the front of `out`, and answers its length: of the cleaned shape, or else, as the error, of the line of the refusal.
+pub fn make_front(ty: &[u8], shape: &[u8], out: &mut [u8]) -> Result<usize, usize>
+    requires { 65536 ≤ length out.old }
+    ensures cleaned { IfOk result (λ n. (true, take n out.new) ≡ given (cleaned_shape ty.now shape.now)) }
+    ensures refused { IfErr result (λ n. (false, take n out.new) ≡ given (cleaned_shape ty.now shape.now)) }
+    ensures prefix_len { MatchResult result (λ n. IsPrefixLen n out.new) (λ n. IsPrefixLen n out.new) }
+{
+    match clean_shape(ty, shape, out) {
+        Ok(n) => Ok(n),
+        Err(x) => Err(write_refused(x, out)),
+    }
+}
+
+// As `make_front`, and lends what was written.
 pub fn make<'a>(ty: &[u8], shape: &[u8], out: &'a mut [u8]) -> Result<&'a [u8], &'a [u8]>
     requires { 65536 ≤ length out.old }
     ensures cleaned { IfOk result (λ made. (true, made.now) ≡ given (cleaned_shape ty.now shape.now)) }
     ensures refused { IfErr result (λ line. (false, line.now) ≡ given (cleaned_shape ty.now shape.now)) }
     ensures lent { MatchResult result (λ made. length made.now ≤ length out.old) (λ line. length line.now ≤ length out.old) }
 {
-    match clean_shape(ty, shape, out) {
+    match make_front(ty, shape, out) {
         Ok(n) => Ok(&out[..n]),
-        Err(x) => {
-            let n = write_refused(x, out);
-            Err(&out[..n])
-        }
+        Err(n) => Err(&out[..n]),
     }
 }
 

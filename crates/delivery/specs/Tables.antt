@@ -1,7 +1,9 @@
--- What an operation is given of a type file that was read: its table of entries, as the laws of the operations ask for it.
-use Rattle.std.specs.Prelude.{◌≡◌, refl, false, List, ℕ, ◌≤◌, length, Ok}
-use Rattle.std.proofs.Common.{arith}
+-- What an operation is given of a type file that was read: its table of entries, as the laws of the operations ask for it; or what refuses the file.
+use Rattle.std.specs.Prelude.{◌≡◌, refl, false, [], List, ℕ, ◌≤◌, length, Result, Ok, Err, MatchResult}
+use Rattle.std.proofs.Common.{subst, arith}
+use Rattle.reply.specs.declared.Refusal.{Refusal}
 use Rattle.types.specs.declared.entry.Entry.{Entry}
+use Rattle.types.specs.declared.places.Table.{Table}
 use Rattle.types.specs.Entries.{ends, sizes, widths, sizes_length, widths_length}
 use Rattle.types.specs.Steps.{Given}
 use Rattle.types.specs.Table.{Checked}
@@ -22,6 +24,22 @@ pub record IsMeasured (ty : List ℕ) (table : List Entry) : Type 0 where
   pub records : ℕ
   pub tabled : Tabled ty (Ok records) (ends table) (sizes table) (widths table)
   pub long : 1024 ≤ length table
+
+-- what reading a type file gave where it need not lower: the table of this very file, or the row of 1 to 5 that refuses it
+abbrev pub TypeRead : List ℕ → Result Table Refusal → Type 0
+TypeRead ty read = MatchResult read (λ table. (table.ty.now ≡ ty) × IsRead ty table.entries.now) (λ x. Checked ty (Err x) [])
+
+-- and where it is to lower: the row of 1 to 7
+abbrev pub TypeMeasured : List ℕ → Result Table Refusal → Type 0
+TypeMeasured ty read = MatchResult read (λ table. (table.ty.now ≡ ty) × IsMeasured ty table.entries.now) (λ x. Tabled ty (Err x) [] [] [])
+
+-- where the file is refused
+module _ {ty : List ℕ} {read : Result Table Refusal} {x : Refusal} (e : read ≡ Err x) where
+  pub read_not : TypeRead ty read → Checked ty (Err x) []
+  read_not = subst (λ (r : Result Table Refusal). TypeRead ty r) e
+
+  pub measured_not : TypeMeasured ty read → Tabled ty (Err x) [] [] []
+  measured_not = subst (λ (r : Result Table Refusal). TypeMeasured ty r) e
 
 module _ {ty : List ℕ} {table : List Entry} (m : IsMeasured ty table) where
   pub sizes_long : 1024 ≤ length (sizes table)

@@ -1,5 +1,5 @@
 // What the entries do once a type file was read: the rows behind the type's, and the result.
-// Each takes the type file with its table, and is called by the public entry of its name.
+// Each takes the type file with its table; the function of its name in `given`, which the public entry calls, takes what reading the file gave, a refusal as well.
 #![tactic(auto)]
 
 ghost use Rattle.model.specs.Calls.{Lower, Room, WriteShape, ShapeRecords, Reconstruct, CleanShape, WriteFrame, ReadFrame, PartRead, PartEdit, Search};
@@ -19,6 +19,8 @@ use shape_clean::write_cleaned;
 use structural::write_lowered;
 use types::{LEVELS, Table};
 use value::{RECORD, check_file};
+
+pub mod given;
 
 // Writes the lowered type of a type file over the front of `out`, and answers its length; every byte behind it stays, and all of them where it is refused.
 pub fn lower(table: &Table<'_>, out: &mut [u8]) -> Result<usize, Refusal>

@@ -38,7 +38,7 @@ struct Read {
 
 // The record at place p of a shape, or no record where the shape has ended.
 // It is a byte and no Option: each test asks for one or two records by name, and one more byte that no test asks for needs no arm of its own.
-fn record_at(shape: &[u8], p: usize) -> u8
+pub fn record_at(shape: &[u8], p: usize) -> u8
     ensures { result ≡ get_or shape.now p 4 }
 {
     shape.get(p).copied().unwrap_or(NO_RECORD)

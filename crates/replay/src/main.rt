@@ -9,13 +9,14 @@
 // The result of `room` and of `shape_records` are the numbers that they tell, three bytes each.
 #![tactic(auto)]
 
-ghost use Rattle.std.specs.Prelude.{◌+◌, ◌≤◌, ◌<◌, length};
+ghost use Rattle.std.specs.Prelude.{◌+◌, ◌≤◌, ◌<◌, IfSome, length};
+ghost use Rattle.replay.specs.Cases.{Stands};
 
 use niegluk::{
     clean_shape, lower, part_edit, part_read, read_frame, reconstruct, shape_records, write_frame,
     write_shape,
 };
-use reply::{Refusal, TypeRoom, number};
+use reply::{Refusal, TypeRoom};
 use std::fs::File;
 use std::io::Read;
 use std::rt::Files;
@@ -112,7 +113,9 @@ fn number_at(s: &[u8], at: usize) -> usize
 }
 
 // How many cases the file tells to have; none where it cannot be read.
-fn read_count<R: Read>(reader: &mut R) -> Option<usize> {
+fn read_count<R: Read>(reader: &mut R) -> Option<usize>
+    ensures { IfSome result (λ n. n < 16777216) }
+{
     let mut n = [0u8; 3];
     reader.read_exact(&mut n).ok()?;
     Some(number_at(&n, 0))
@@ -120,7 +123,9 @@ fn read_count<R: Read>(reader: &mut R) -> Option<usize> {
 
 // Reads the next case, with its files in `body`. None where it cannot be read: the file ends before it does, its body is too long, or it is of no entry.
 // What follows a body that is too long is misread.
-fn read_case<'a, R: Read>(reader: &mut R, body: &'a mut [u8; BODY]) -> Option<Case<'a>> {
+fn read_case<'a, R: Read>(reader: &mut R, body: &'a mut [u8; BODY]) -> Option<Case<'a>>
+    ensures { IfSome result (λ c. Stands c 70000) }
+{
     let mut head = [0u8; HEAD];
     reader.read_exact(&mut head).ok()?;
     let ty = number_at(&head, 5);
@@ -173,9 +178,13 @@ fn answer(c: Case<'_>, out: &mut [u8]) -> Result<usize, Refusal> {
     }
 }
 
-// Does the reply tell this number and this length?
-fn tells(r: Result<usize, Refusal>, n: u8, len: usize) -> bool {
-    number(r) == u32::from(n) && r.unwrap_or(0) == len
+// Does the entry answer this number, and what is told here? What a refusal tells counts as 0, as a number that the case leaves out does.
+fn tells<T: PartialEq + Default + Copy + Drop>(
+    answer: Result<T, Refusal>,
+    number: u8,
+    told: T,
+) -> bool {
+    reply::number(answer) == u32::from(number) && answer.unwrap_or_default() == told
 }
 
 // The lent bytes of an edit are its frame; all others are left as they are.
@@ -216,34 +225,24 @@ fn told_at(res: &[u8], at: usize) -> Option<usize>
     Some(number_at(res, at))
 }
 
-// The three numbers of a result of `room`.
-fn told_room(res: &[u8]) -> Option<TypeRoom> {
-    Some(TypeRoom {
-        lowered: told_at(res, 0)?,
-        bits: told_at(res, 3)?,
-        shape: told_at(res, 6)?,
-    })
-}
-
-// Does an entry that only tells numbers answer the case's number, and these that the case tells?
-fn teller_agrees<T: PartialEq + Copy + Drop>(
-    answer: Result<T, Refusal>,
-    number: u8,
-    told: Option<T>,
-) -> bool {
-    match answer {
-        Ok(x) => number == 0 && told == Some(x),
-        Err(x) => u32::from(x) == u32::from(number) && told.is_none(),
+// The three numbers of a result of `room`; 0 for one that is not there.
+fn told_room(res: &[u8]) -> TypeRoom {
+    TypeRoom {
+        lowered: told_at(res, 0).unwrap_or(0),
+        bits: told_at(res, 3).unwrap_or(0),
+        shape: told_at(res, 6).unwrap_or(0),
     }
 }
 
 // Does the case end as it is recorded?
 fn holds(c: Case<'_>) -> bool {
     match c.entry {
-        Entry::Room => teller_agrees(niegluk::room(c.ty), c.number, told_room(c.result)),
-        Entry::ShapeRecords => {
-            teller_agrees(shape_records(c.ty, c.file), c.number, told_at(c.result, 0))
-        }
+        Entry::Room => tells(niegluk::room(c.ty), c.number, told_room(c.result)),
+        Entry::ShapeRecords => tells(
+            shape_records(c.ty, c.file),
+            c.number,
+            told_at(c.result, 0).unwrap_or(0),
+        ),
         _ => writer_agrees(c),
     }
 }

@@ -5,30 +5,22 @@
 use cleaner::{HERE, Names, clean_files};
 use files::read_into;
 use std::fs::File;
+use std::io;
 use std::rt::Files;
-use std::{fmt, io};
-
-// Shown as a digit a record.
-#[derive(Clone, Copy)]
-struct Digits<'a>(&'a [u8]);
-
-impl fmt::Display for Digits<'_> {
-    fn fmt<W: fmt::Write>(&self, f: &mut fmt::Formatter<W>) -> fmt::Result {
-        for &record in self.0 {
-            write!(f, "{}", record % 10)?;
-        }
-        Ok(())
-    }
-}
+use text::write_digits;
 
 // Prints the shape in the file of that name, or that there is none.
-// The buffer is on the stack, as all memory of ours (README, Limits).
+// The buffers are on the stack, as all memory of ours (README, Limits).
 fn show_shape(rt: &(impl Files + Print), name: &str) -> io::Result<()> {
     let mut shape = [0u8; 65540];
+    let mut line = [0u8; 65540];
     if !is_there(rt, name) {
         return println!(rt; "no new.shape");
     }
-    println!(rt; "{}", Digits(read_into(rt, name, &mut shape)))
+    let shape = read_into(rt, name, &mut shape);
+    let n = write_digits(shape, &mut line);
+    rt.write_all(&line[..n])?;
+    println!(rt; "")
 }
 
 // Whether there is a file of that name.

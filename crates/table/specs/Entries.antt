@@ -10,7 +10,7 @@ use Rattle.model.specs.Structural.{SType, 𝟙, ◌⊕◌, product_of, balanced_
 use Rattle.model.specs.Frames.{width}
 use Rattle.model.specs.Lowering.{lower, lowers}
 use Rattle.model.proofs.Laws.Balanced.{btree_leaves}
-use Rattle.model.proofs.Laws.Sizes.{nodes, nodes_all, width_all, nodes_none, nodes_product_of, nodes_array, nodes_balanced_sum, width_product_of, width_array}
+use Rattle.model.proofs.Laws.Sizes.{nodes, nodes_all, width_all, nodes_none, nodes_product_of, nodes_array, width_product_of, width_array}
 use Rattle.num.specs.Powers.{bound_log2}
 use Rattle.num.specs.Laws.{bounded}
 use Rattle.types.specs.declared.Head.{Head}

@@ -23,6 +23,7 @@ use Rattle.types.specs.Lows.{low}
 use Rattle.types.specs.Accepted.{ends_whole}
 use Rattle.types.specs.Unique.{inside}
 use Rattle.table.specs.declared.Facts as facts
+use Rattle.table.specs.declared.Flags as flags
 use Rattle.table.specs.Facts.{cut, facts_of, facts_true, Measured}
 use Rattle.table.specs.Entries.{facts_right}
 use Rattle.table.specs.Flags.{flagged}
@@ -41,7 +42,13 @@ pub record Measurable (s E S W : List ℕ) (n : ℕ) : Type 0 where
 abbrev pub verdict : Bool → Bool → Result ⊤ Refusal
 verdict never large = pick never (Err NeverStands) (pick large (Err TooLarge) (Ok tt))
 
--- what it comes to: each entry right, and rows 6 and 7
+-- what it comes to: each entry right, and whether a Never stands and whether something is too large
+pub record Flagged (s : List ℕ) (r : flags.Flags) (S W : List ℕ) : Type 0 where
+  pub measured : Measured s S W 0
+  pub never : r.never ≡ has_never (tree 32 s 0)
+  pub large : r.large ≡ over_large (tree 32 s 0)
+
+-- the same, told by rows 6 and 7
 pub record Measures (s : List ℕ) (r : Result ⊤ Refusal) (S W : List ℕ) : Type 0 where
   pub measured : Measured s S W 0
   pub answer : r ≡ verdict (has_never (tree 32 s 0)) (over_large (tree 32 s 0))
@@ -180,6 +187,21 @@ some_of k z n =
 pub some_variants : (s : List ℕ) (i : ℕ) → head_at s i ≡ Variants 0 → ⊥
 unfolding head_at
 some_variants s i e = subst HasVariants e (both (ltb i (length s / 4)) _ _ (λ h. some_of _ _ _) (λ h. tt)) refl
+
+pub filling_flags : {s E S W : List ℕ} {n i : ℕ} {x y : Bool} (r : flags.Flags) → Filling s E n i x y S W → i ≤ 0 → r.never ≡ x → r.large ≡ y → Flagged s r S W
+filling_flags {s} {E} {S} {W} {n} {i} {x} {y} r g h u v =
+    let z : i ≡ 0 = omega arith in
+    let a : n - i ≡ n = omega arith in
+    let w = (ends_whole s n g.given.accepted).0 in
+    let m : Measured s S W 0 = subst (Measured s S W) z g.measured in
+    record {
+      measured = m;
+      never = u ∙ g.never ∙ ap₂ (flagged (never_at s)) z a ∙ never_flagged s (some_variants s) 32 n w;
+      large = v ∙ g.large ∙ ap₂ (flagged (large_at S)) z a ∙ large_flagged s S W m (some_variants s) 32 n w;
+    }
+
+pub flags_measure : {s S W : List ℕ} {f : flags.Flags} (r : Result ⊤ Refusal) → Flagged s f S W → r ≡ verdict f.never f.large → Measures s r S W
+flags_measure r g v = record { measured = g.measured; answer = v ∙ ap₂ verdict g.never g.large }
 
 pub filling_end : {s E S W : List ℕ} {n i : ℕ} {x y : Bool} (r : Result ⊤ Refusal) → Filling s E n i x y S W → i ≤ 0 → r ≡ verdict x y → Measures s r S W
 filling_end {s} {E} {S} {W} {n} {i} {x} {y} r g h v =

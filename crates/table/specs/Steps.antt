@@ -1,7 +1,6 @@
 -- How the code's loops and calls go by one step, in the form in which its needs ask it.
-use Rattle.std.specs.Prelude.{◌≡◌, refl, List, ℕ, zero, suc, ◌+◌, ◌-◌, ◌≤◌, ◌<◌, max, get_or}
-use Rattle.std.proofs.Common.{sym, ap, ◌∙◌, sub-one, arith, Fits}
-use Rattle.std.specs.Int.{w64}
+use Rattle.std.specs.Prelude.{◌≡◌, refl, List, ℕ, zero, suc, ◌+◌, ◌-◌, ◌≤◌, ◌<◌, get_or}
+use Rattle.std.proofs.Common.{sym, ap, ◌∙◌, sub-one, arith}
 use Rattle.model.specs.Balanced.{BTree, leaf, fork, btree, btree_split_index, grow}
 use Rattle.model.proofs.Laws.Balanced.{btree_fork, split_bounds}
 use Rattle.table.specs.declared.Facts as facts

@@ -2,7 +2,6 @@
 use Rattle.std.specs.Prelude.{◌≡◌, ⊤, List, Bool, true, false, ℕ, ◌≤◌, length, Result, Ok, Err}
 use Rattle.std.proofs.Common.{sym, ap, subst, ◌∙◌, arith}
 use Rattle.reply.specs.declared.Refusal.{Refusal}
-use Rattle.reply.specs.declared.Refusal.TheVariants.{NeverStands, TooLarge}
 use Rattle.model.specs.Numbers.{never_stands, too_large}
 use Rattle.model.specs.Outcome.{done, refuse, ◌>>◌}
 use Rattle.model.specs.Lowering.{has_never, over_large}

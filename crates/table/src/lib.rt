@@ -7,7 +7,7 @@ ghost use Rattle.model.specs.Balanced.{btree};
 ghost use Rattle.types.specs.Heads.{Fair};
 ghost use Rattle.types.specs.Entries.{ends, sizes, widths};
 ghost use Rattle.table.specs.Lowering.{is_never};
-ghost use Rattle.table.specs.Measuring.{Measurable, Measures, Entered};
+ghost use Rattle.table.specs.Measuring.{Measurable, Flagged, Measures, Entered};
 ghost use Rattle.table.specs.Tabled.{Tabled};
 ghost use Rattle.table.specs.Hops.{hops, Hops};
 ghost use Rattle.table.specs.Facts.{cut, cut_entry, sums, sum, sum_facts, product, uint_facts, either_facts, option_facts, array_facts, list_facts, facts_of};
@@ -26,6 +26,13 @@ const MOST: usize = 65536;
 pub struct Facts {
     pub size: usize,
     pub width: usize,
+}
+
+// Does Never stand somewhere, and is something too large?
+#[derive(Clone, Copy, PartialEq, Eq, Debug)]
+pub struct Flags {
+    pub never: bool,
+    pub large: bool,
 }
 
 // The facts of a unit.
@@ -195,11 +202,11 @@ fn enter(h: Head, entries: &mut [Entry], i: usize) -> usize
     size
 }
 
-// Rows 6 and 7 of an accepted type file of n records, whose facts are put down, each once.
-pub fn measure(ty: &[u8], entries: &mut [Entry], n: usize) -> Result<(), Refusal>
+// Puts down the facts of an accepted type file of n records, each once, and tells whether a Never stands somewhere and whether something is too large.
+pub fn enter_all(ty: &[u8], entries: &mut [Entry], n: usize) -> Flags
     requires { Measurable ty.now (ends entries.old) (sizes entries.old) (widths entries.old) n }
     ensures kept { ends entries.new ≡ ends entries.old }
-    ensures measures { Measures ty.now result (sizes entries.new) (widths entries.new) }
+    ensures flagged { Flagged ty.now result (sizes entries.new) (widths entries.new) }
 {
     let mut never = false;
     let mut large = false;
@@ -208,6 +215,16 @@ pub fn measure(ty: &[u8], entries: &mut [Entry], n: usize) -> Result<(), Refusal
         never |= matches!(h, Head::Never);
         large |= MOST < enter(h, entries, i);
     }
+    Flags { never, large }
+}
+
+// Rows 6 and 7 of an accepted type file of n records, whose facts are put down, each once.
+pub fn measure(ty: &[u8], entries: &mut [Entry], n: usize) -> Result<(), Refusal>
+    requires { Measurable ty.now (ends entries.old) (sizes entries.old) (widths entries.old) n }
+    ensures kept { ends entries.new ≡ ends entries.old }
+    ensures measures { Measures ty.now result (sizes entries.new) (widths entries.new) }
+{
+    let Flags { never, large } = enter_all(ty, entries, n);
     if never {
         return Err(Refusal::NeverStands);
     }

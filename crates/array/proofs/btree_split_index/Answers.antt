@@ -1,10 +1,10 @@
 -- The library's power is the definition's: both are powers of two that are not below n, and half of neither is not below it.
 use Rattle.std.specs.Prelude.{◌≡◌, ℕ, suc, zero, ◌/◌, ◌^◌, ◌≤◌, ◌<◌, max}
-use Rattle.std.proofs.Common.{rules, refl, ◌-◌, ap, sym, ◌∙◌, arith}
-use Rattle.std.proofs.Math.Nat.{two-pow-succ, pow-le-pow_right, one-le-pow}
+use Rattle.std.proofs.Common.{rules, ◌-◌, ap, ◌∙◌, arith}
+use Rattle.std.proofs.Math.Nat.{two-pow-succ, pow-le-pow_right}
 use Rattle.std.proofs.Math.Decide.{dec_le}
-use Rattle.model.specs.Balanced.{next, next_power_of_two, btree_split_index}
-use Rattle.array.specs.Lefts.{left_size, lefts, left_sizes, entry_split}
+use Rattle.model.specs.Balanced.{next_power_of_two, btree_split_index}
+use Rattle.array.specs.Lefts.{entry_split}
 use Rattle.model.proofs.Laws.Balanced.{half_of}
 use Rattle.array.proofs.btree_split_index.Goals as goal
 
@@ -26,8 +26,7 @@ same_power n (suc k) h m l =
     omega (arith, two-pow-succ k, ap (λ i. 2 ^ i) e)
 
 pub returns-then-n-le-MOST_TABLED : goal.returns-then-n-le-MOST_TABLED
-unfolding left_sizes lefts left_size btree_split_index next_power_of_two next
-returns-then-n-le-MOST_TABLED c = entry_split refl c.requires.0 c.if-n-le-MOST_TABLED.true
+returns-then-n-le-MOST_TABLED c = entry_split c.left_sizes.ensures c.requires.0 c.if-n-le-MOST_TABLED.true
 
 pub overflow_sub-result : goal.overflow_sub-result
 overflow_sub-result c = let u = c.next_power_of_two.ensures.upper_bound in search (rules)

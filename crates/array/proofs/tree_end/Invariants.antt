@@ -2,8 +2,8 @@
 -- so the count of them never passes i.
 use mathlib.Core.Path.{◌≡◌}
 use mathlib.Core.List.{List}
-use Prim.Native.Nat.{ℕ, ◌-◌, ◌≤◌}
-use lib.ListN.{length, drop}
+use Prim.Native.Nat.{ℕ, ◌≤◌}
+use lib.ListN.{drop}
 use Rattle.array.specs.Ends.{closes, tree_end_of}
 use Rattle.array.proofs.tree_end.Given as goal
 

@@ -1,5 +1,5 @@
 -- Laws of the trees of a shape file: what a tree's first record is, and where the trees below it stand.
-use Rattle.std.specs.Prelude.{◌≡◌, ℕ, suc, ◌+◌, ◌≤◌, ◌<◌, get_or, Option as Optional, Some, unwrap_or}
+use Rattle.std.specs.Prelude.{◌≡◌, ℕ, suc, ◌+◌, ◌≤◌, ◌<◌, get_or, Option as Optional, Some, None, unwrap_or}
 use Rattle.std.proofs.Math.Path.{refl, sym, ap}
 use Rattle.std.proofs.Common.{◌∙◌, add-zero, arith, drop-drop, get_or-drop}
 use mathlib.Core.List.{List, ◌∷◌, ◌++◌, append_assoc}
@@ -112,6 +112,9 @@ module _ (sh : List ℕ) (q : ℕ) (g : Found (tree_at sh q)) where
 
   pub passed : (r : Optional ℕ) (n : ℕ) → r ≡ tree_end_of sh q → n ≡ unwrap_or r q → Ends (tree_at sh q) n
   passed r n h k = let e : g.end ≡ n = ap (λ r. unwrap_or r q) (sym (h ∙ ends)) ∙ sym k in record { what = g.what; there = g.there ∙ ap (λ i. some (g.what, i)) e }
+
+  pub not_passed : (r : Optional ℕ) → r ≡ tree_end_of sh q → r ≡ None → ⊥
+  not_passed r h k = let e : ◌≡◌ {A = Optional ℕ} (Some g.end) None = sym ends ∙ sym h ∙ k in cc
 
 -- WHAT IS MADE OF A TREE
 

@@ -1,4 +1,3 @@
-use Rattle.std.proofs.Common.{rules}
 use Rattle.table.specs.Steps.{small_of, share_left, share_sub, share_right}
 use Rattle.table.proofs.+sum_facts.Goals as goal
 

@@ -1,9 +1,0 @@
--- A type file that is refused refuses the call.
-use Rattle.std.proofs.Common.{◌≡◌, refl, rules, Err}
-use Rattle.delivery.specs.Days.{search_bad_type}
-use Rattle.niegluk.proofs.search.Goals as goal
-
-pub returns-in_err-table : goal.returns-in_err-table
-returns-in_err-table c =
-    let z : c.from_residual.result ≡ Err c.in_err-table.field-0.0 = search rules in
-    rw z (search_bad_type c.in_err-table.ensures _ _ _ refl)
